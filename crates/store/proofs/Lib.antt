@@ -1,0 +1,6 @@
+pub mod Slot
+pub mod Rows
+pub mod Find
+pub mod Rules
+pub mod Blank
+pub mod Examples

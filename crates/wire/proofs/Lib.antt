@@ -1,0 +1,5 @@
+pub mod Numbers
+pub mod Versions
+pub mod Packet
+pub mod RoundTrip
+pub mod Literals
