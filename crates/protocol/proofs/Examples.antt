@@ -1,0 +1,188 @@
+-- Computed runs: document 01's bench example, the incident that fences are for, a first node replaced, a last node replaced; each is a run of the system.
+use Prim.Native.Nat.{ℕ, _<_}
+use mathlib.Core.Path.{_≡_, refl, sym, ap, _∙_, subst}
+use mathlib.Core.Bool.{true, not, false≢true}
+use mathlib.Core.List.{List, [], _∷_, List·Memᴰ as Mem, List·Memᴰ·head as here, List·Memᴰ·tail as there}
+use mathlib.Core.Logic.{inl, ⊎-elim}
+use native.Mathlib.Omega.{arith}
+use lib.ListN.{length}
+use lib.Dec.{eqb}
+use borrow.Author.Tests.{eqb-true, not-true}
+use Rattle.wire.proofs.Numbers.{and-left, and-right, or-true, reflect-and, reflect-eqb}
+use Rattle.wire.proofs.Packet.{reflect-fit}
+use Rattle.store.proofs.Find.{reflect-eqs}
+use Rattle.steps.proofs.ChainRules.{reflect-chain}
+use Rattle.wire.specs.Numbers.{pick, guard}
+use Rattle.wire.specs.declared.Session.{Session}
+use Rattle.wire.specs.Version.{session, zeroVersion, topSequence, nextSession, nextSequence, nextStamp, newer}
+use Rattle.wire.specs.Packet.{Packet, packet, headOk, packetOk}
+use Rattle.store.specs.Table.{Slot, enteredSlot, has, isFreeSlot, find, lowestFree, blankTable}
+use Rattle.store.specs.Held.{holds, held}
+use Rattle.steps.specs.Chain.{members, memb, firstOf, lastOf, nextOf, placeOf, insertAt, removeAt, apart, noneAbove, joiningOk, chainOk, largest, startChain}
+use Rattle.steps.specs.Node.{reply, absent, answered, given, versionFor, stored, taken, atSlot, nodeStep}
+use Rattle.steps.specs.Relay.{toNode, toClient, fromClient as clientWay, onward, fromNode, wayOf, relayStep}
+use Rattle.steps.specs.Control.{opened, openStep, fenceStep, copyStep, activated, activateStep, cancelStep, removed, removeStep, enterStep}
+use Rattle.protocol.specs.System.{State, Event, fromClient, noPacket, atRelay, atNode, opens, fences, copies, activates, cancels, removes, enters, halts, exec, upd, Enabled, Reach, start, step}
+use Rattle.protocol.specs.Demand.{Demand3, ClientWrite, Ready, Acknowledged}
+use Rattle.protocol.specs.Runs.{theKey, writeA, benchEnters, startState, run, outcomes, samePacket, wasMade, enabled, allowed, benchStart, benchEvents, benchOutcomes, incidentStart, incidentEvents, incidentOutcomes, twoStart, headEvents, headOutcomes, tailEvents, tailOutcomes}
+use Rattle.steps.proofs.NodeDone.{holds-inj}
+use Rattle.protocol.proofs.Main.{demand}
+use Rattle.protocol.proofs.Live.{acknowledged}
+
+-- all that a run computes with: to unfold this is to unfold them
+computing : Unit {0}
+unfolding run outcomes allowed enabled wasMade samePacket headOk packetOk exec upd pick guard nextSession nextSequence nextStamp newer has isFreeSlot find lowestFree blankTable held memb firstOf lastOf nextOf placeOf insertAt removeAt apart noneAbove joiningOk chainOk largest startChain reply absent answered given versionFor stored taken atSlot nodeStep toNode toClient clientWay onward fromNode wayOf relayStep opened openStep fenceStep copyStep activated activateStep cancelStep removed removeStep enterStep
+computing = tt
+
+-- ---- what each gives
+
+pub bench-outcomes : outcomes (run benchEvents benchStart .trace) [] ≡ benchOutcomes
+unfolding computing
+bench-outcomes = refl
+
+pub incident-outcomes : outcomes (run incidentEvents incidentStart .trace) [] ≡ incidentOutcomes
+unfolding computing
+incident-outcomes = refl
+
+pub head-outcomes : outcomes (run headEvents twoStart .trace) [] ≡ headOutcomes
+unfolding computing
+head-outcomes = refl
+
+pub tail-outcomes : outcomes (run tailEvents twoStart .trace) [] ≡ tailOutcomes
+unfolding computing
+tail-outcomes = refl
+
+-- the chains that they leave
+pub bench-chain : members (run benchEvents benchStart .chain) ≡ 1 ∷ 3 ∷ []
+unfolding computing
+bench-chain = refl
+
+pub incident-chain : members (run incidentEvents incidentStart .chain) ≡ 1 ∷ 4 ∷ 3 ∷ []
+unfolding computing
+incident-chain = refl
+
+pub head-chain : members (run headEvents twoStart .chain) ≡ 3 ∷ 2 ∷ []
+unfolding computing
+head-chain = refl
+
+pub tail-chain : members (run tailEvents twoStart .chain) ≡ 1 ∷ 3 ∷ []
+unfolding computing
+tail-chain = refl
+
+-- ---- a run that passes the test is a run of the system
+
+same-packet : (p q : Packet) → samePacket p q ≡ true → p ≡ q
+unfolding samePacket
+same-packet p q e = λ i. packet
+    (record {
+      op = h .0 i;
+      answer = h .1 .0 i;
+      from = h .1 .1 .0 i;
+      to = h .1 .1 .1 .0 i;
+      client = h .1 .1 .1 .1 .0 i;
+      request = h .1 .1 .1 .1 .1 .0 i;
+      stamp = record { 0 = h .1 .1 .1 .1 .1 .1 .0 i };
+      version = record { session = record { 0 = h .1 .1 .1 .1 .1 .1 .1 .0 i }; sequence = record { 0 = h .1 .1 .1 .1 .1 .1 .1 .1 .0 i } };
+      length = h .1 .1 .1 .1 .1 .1 .1 .1 .1 .0 i;
+    })
+    (h .1 .1 .1 .1 .1 .1 .1 .1 .1 .1 .0 i)
+    (h .1 .1 .1 .1 .1 .1 .1 .1 .1 .1 .1 i)
+  where
+    h : (p .head .op ≡ q .head .op) × ((p .head .answer ≡ q .head .answer) × ((p .head .from ≡ q .head .from) × ((p .head .to ≡ q .head .to)
+        × ((p .head .client ≡ q .head .client) × ((p .head .request ≡ q .head .request) × ((p .head .stamp .0 ≡ q .head .stamp .0)
+        × ((p .head .version .session .0 ≡ q .head .version .session .0) × ((p .head .version .sequence .0 ≡ q .head .version .sequence .0)
+        × ((p .head .length ≡ q .head .length) × ((p .key ≡ q .key) × (p .value ≡ q .value)))))))))))
+    h =
+        reflect-and (reflect-eqb _ _) (reflect-and (reflect-eqb _ _) (reflect-and (reflect-eqb _ _) (reflect-and (reflect-eqb _ _)
+        (reflect-and (reflect-eqb _ _) (reflect-and (reflect-eqb _ _) (reflect-and (reflect-eqb _ _) (reflect-and (reflect-eqb _ _)
+        (reflect-and (reflect-eqb _ _) (reflect-and (reflect-eqb _ _) (reflect-and (reflect-eqs _ _) (reflect-eqs _ _))))))))))) .0 e
+
+was-made : (p : Packet) (l : List Packet) → wasMade p l ≡ true → Mem p l
+unfolding wasMade
+was-made p [] e = absurd (false≢true e)
+was-made p (q ∷ l) e = ⊎-elim (λ h. here (same-packet p q h)) (λ h. there (was-made p l h)) (or-true (samePacket p q) (wasMade p l) e)
+
+is-enabled : (e : Event) (s : State) → enabled e s ≡ true → Enabled e s
+unfolding enabled
+is-enabled (fromClient p) s e = (eqb-true _ _ (and-left (eqb (p .head .from) 0) (packetOk p) e), reflect-fit p .0 (and-right (eqb (p .head .from) 0) (packetOk p) e))
+is-enabled noPacket s e = tt
+is-enabled (atRelay p) s e = was-made p (s .packets) e
+is-enabled (atNode j p) s e =
+    (was-made p (s .packets) (and-left (wasMade p (s .packets)) (not (s .halted j)) e), not-true (s .halted j) (and-right (wasMade p (s .packets)) (not (s .halted j)) e))
+is-enabled (opens side named fresh) s e = tt
+is-enabled (fences j) s e = tt
+is-enabled (copies i a b) s e = tt
+is-enabled activates s e = tt
+is-enabled cancels s e = tt
+is-enabled (removes j) s e = e
+is-enabled (enters j id key) s e = eqb-true _ _ e
+is-enabled (halts j) s e = tt
+
+runs : (l : List Event) (s : State) → allowed l s ≡ true → Reach s → Reach (run l s)
+unfolding allowed run
+runs [] s e r = r
+runs (x ∷ l) s e r = runs l (exec x s) (and-right (enabled x s) (allowed l (exec x s)) e) (step r x (is-enabled x s (and-left (enabled x s) (allowed l (exec x s)) e)))
+
+starts : (n : ℕ) (places : List ℕ) (count : ℕ) → chainOk (startChain n places count) ≡ true → Reach (startState n places count)
+starts n places count e = start (record {
+  length = n;
+  places = places;
+  count = count;
+  chain = refl;
+  rules = reflect-chain (startChain n places count) .0 e;
+  blank = λ j. refl;
+  awake = λ j. refl;
+  quiet = refl;
+  fresh = refl;
+  unwritten = refl;
+})
+
+-- ---- each is a run of the system
+
+pub bench-reached : Reach (run benchEvents benchStart)
+unfolding computing
+bench-reached = runs benchEvents benchStart refl (starts _ _ _ refl)
+
+pub incident-reached : Reach (run incidentEvents incidentStart)
+unfolding computing
+incident-reached = runs incidentEvents incidentStart refl (starts _ _ _ refl)
+
+pub head-reached : Reach (run headEvents twoStart)
+unfolding computing
+head-reached = runs headEvents twoStart refl (starts _ _ _ refl)
+
+pub tail-reached : Reach (run tailEvents twoStart)
+unfolding computing
+tail-reached = runs tailEvents twoStart refl (starts _ _ _ refl)
+
+-- ---- so demand 3 holds of each, and the premises of the acknowledged write are met after the keys are entered
+
+pub incident-demand : Demand3 (run incidentEvents incidentStart) theKey
+incident-demand = demand theKey (run incidentEvents incidentStart) incident-reached
+
+pub bench-entered : Reach (run benchEnters benchStart)
+unfolding computing
+bench-entered = runs benchEnters benchStart refl (starts _ _ _ refl)
+
+pub bench-ready : Ready (run benchEnters benchStart) theKey
+unfolding computing
+bench-ready = record { awake = λ j m. refl; still = refl; known = known; left = left }
+  where
+    at : (j i : ℕ) → held theKey (run benchEnters benchStart .table i .slots) ≡ holds (enteredSlot theKey) → j ≡ i → (x : Slot) × (held theKey (run benchEnters benchStart .table j .slots) ≡ holds x)
+    at j i h e = (enteredSlot theKey, subst (λ (n : ℕ). held theKey (run benchEnters benchStart .table n .slots) ≡ holds (enteredSlot theKey)) (sym e) h)
+
+    known : (j : ℕ) → Mem j (1 ∷ 2 ∷ 3 ∷ []) → (x : Slot) × (held theKey (run benchEnters benchStart .table j .slots) ≡ holds x)
+    known j (here e) = at j 1 refl e
+    known j (there (here e)) = at j 2 refl e
+    known j (there (there (here e))) = at j 3 refl e
+    known j (there (there (there m))) = elim m [ ]
+
+    left : (x : Slot) → holds (enteredSlot theKey) ≡ holds x → x .version .session ≡ session 1 → x .version .sequence .0 < topSequence
+    left x h e = absurd (let z = ap (λ (y : Slot). y .version .session .0) (holds-inj h) ∙ ap (λ (y : Session). y .0) e in omega arith)
+
+pub bench-acknowledged : Acknowledged (run benchEnters benchStart) (writeA 0 0 0 zeroVersion)
+unfolding computing
+bench-acknowledged = acknowledged (run benchEnters benchStart) (writeA 0 0 0 zeroVersion) bench-entered write bench-ready
+  where
+    write : ClientWrite (writeA 0 0 0 zeroVersion)
+    write = record { fit = reflect-fit (writeA 0 0 0 zeroVersion) .0 refl; query = refl; alters = inl refl; from = refl; to = refl; stamp = refl; version = refl }

@@ -1,0 +1,13 @@
+pub mod Upd
+pub mod Prims
+pub mod Ghosts
+pub mod Packets
+pub mod Node
+pub mod Relay
+pub mod Control
+pub mod Members
+pub mod Trace
+pub mod Main
+pub mod Facts
+pub mod Live
+pub mod Examples

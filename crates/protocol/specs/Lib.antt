@@ -1,0 +1,5 @@
+pub mod System
+pub mod Demand
+pub mod Inv
+pub mod Trace
+pub mod Runs
