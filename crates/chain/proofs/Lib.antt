@@ -1,0 +1,3 @@
+pub mod Ids
+pub mod Places
+pub mod Rules

@@ -1,0 +1,34 @@
+-- `chain::next` meets its contract.
+use mathlib.Core.Path.{_≡_}
+use native.Mathlib.Omega.{arith}
+use lib.ListN.{length}
+use borrow.Author.Needs.{needs}
+use Rattle.steps.specs.Chain.{mostNodes, members}
+use Rattle.steps.proofs.ChainIds.{place-le}
+use Rattle.chain.proofs.Ids.{taken, length-used, next-at}
+use Rattle.chain.proofs.next.Statement.{statement}
+use Rattle.chain.proofs.next.Tie as tie
+
+used-requires : tie.Need-used-requires
+used-requires c κs = search needs
+
+place-requires : tie.Need-place-requires
+place-requires c κs = search needs
+
+add-at : tie.Need-add-at
+add-at c =
+    let s = c .before .before .before .args in
+    let eight : length (s .c .places) ≡ mostNodes = search needs in
+    omega (arith, place-le (s .id) (members (s .c)), length-used (s .c .length) (s .c .places) eight)
+
+at-requires : tie.Need-at-requires
+at-requires c κs = search needs
+
+returns : tie.Need-returns
+returns c =
+    let s = c .before .before .before .before .args in
+    let eight : length (s .c .places) ≡ mostNodes = search needs in
+    cc (taken (s .c .length) (s .c .places) eight, next-at (s .id) (members (s .c)))
+
+pub next-spec : {M : Type 1} → statement M
+next-spec = tie.close (tie.spec used-requires place-requires add-at at-requires returns)

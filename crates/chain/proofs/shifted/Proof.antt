@@ -1,0 +1,16 @@
+-- `chain::shifted` meets its contract.
+use borrow.Author.Needs.{needs}
+use Rattle.chain.proofs.shifted.Statement.{statement}
+use Rattle.chain.proofs.shifted.Tie as tie
+
+choose-requires : tie.Need-choose-requires
+choose-requires c κs = search needs
+
+choose-requires-2 : tie.Need-choose-requires-2
+choose-requires-2 c κs = search needs
+
+returns : tie.Need-returns
+returns c = cc
+
+pub shifted-spec : {M : Type 1} → statement M
+shifted-spec = tie.close (tie.spec choose-requires choose-requires-2 returns)

@@ -1,0 +1,26 @@
+-- `control::other_named` meets its contract.
+use borrow.Author.Needs.{needs}
+use Rattle.control.proofs.other_named.Statement.{statement}
+use Rattle.control.proofs.other_named.Tie as tie
+
+enum-told : tie.Need-enum-told
+enum-told c = search needs
+
+enum-known-ch : tie.Need-enum-known-ch
+enum-known-ch c = search needs
+
+enum-known-ch-2 : tie.Need-enum-known-ch-2
+enum-known-ch-2 c = search needs
+
+returns : tie.Need-returns
+returns c = search needs
+
+returns-2 : tie.Need-returns-2
+returns-2 c = cc
+
+returns-3 : tie.Need-returns-3
+returns-3 c = cc
+
+pub other-named-spec : {M : Type 1} → statement M
+other-named-spec =
+    tie.close (tie.spec enum-told enum-known-ch enum-known-ch-2 returns returns-2 returns-3)

@@ -1,0 +1,61 @@
+-- `record::open_turn` meets its contract.
+use borrow.Author.Needs.{needs}
+use Rattle.record.proofs.open_turn.Statement.{statement}
+use Rattle.record.proofs.open_turn.Tie as tie
+
+cast-length : tie.Need-cast-length
+cast-length c = search needs
+
+member-requires : tie.Need-member-requires
+member-requires c κs = search needs
+
+last-requires : tie.Need-last-requires
+last-requires c κs = search needs
+
+choose-requires : tie.Need-choose-requires
+choose-requires c κs = search needs
+
+choose-requires-2 : tie.Need-choose-requires-2
+choose-requires-2 c κs = search needs
+
+choose-requires-3 : tie.Need-choose-requires-3
+choose-requires-3 c κs = search needs
+
+is-open-requires : tie.Need-is-open-requires
+is-open-requires c κs = search needs
+
+choose-requires-4 : tie.Need-choose-requires-4
+choose-requires-4 c κs = search needs
+
+last-requires-2 : tie.Need-last-requires-2
+last-requires-2 c κs = search needs
+
+choose-requires-5 : tie.Need-choose-requires-5
+choose-requires-5 c κs = search needs
+
+good-requires : tie.Need-good-requires
+good-requires c κs = search needs
+
+choose-requires-6 : tie.Need-choose-requires-6
+choose-requires-6 c κs = search needs
+
+returns : tie.Need-returns
+returns c = cc
+
+pub open-turn-spec : {M : Type 1} → statement M
+open-turn-spec =
+    tie.close
+    (tie.spec
+    cast-length
+    member-requires
+    last-requires
+    choose-requires
+    choose-requires-2
+    choose-requires-3
+    is-open-requires
+    choose-requires-4
+    last-requires-2
+    choose-requires-5
+    good-requires
+    choose-requires-6
+    returns)
