@@ -1,0 +1,4 @@
+pub mod Record
+pub mod Fields
+pub mod RoundTrip
+pub mod Answers

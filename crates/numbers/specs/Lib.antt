@@ -1,0 +1,3 @@
+pub mod Record
+pub mod Fields
+pub mod Answers
