@@ -1,0 +1,156 @@
+-- What the contracts promise of a call is what the call does in the system over bytes.
+use Prim.Native.Nat.{ℕ}
+use mathlib.Core.Path.{_≡_, refl, sym, ap, _∙_, subst, subst₂}
+use mathlib.Core.List.{List}
+use mathlib.Core.Bool.{Bool}
+use lib.Dec.{eqb}
+use borrow.Author.Tests.{ne-eqb, eqb-true, eqb-false}
+use Rattle.wire.specs.Numbers.{Out, refuse, ok, numberOf, left, pick}
+use Rattle.wire.specs.Packet.{sentIn}
+use Rattle.wire.proofs.Numbers.{pick-true, pick-false, pick-case, past, ok-inj}
+use Rattle.store.specs.Table.{blankBytes, blankCall, blankRows, BlankGives}
+use Rattle.store.proofs.Blank.{blank-judged}
+use Rattle.steps.specs.declared.Chain.{Chain}
+use Rattle.steps.specs.declared.Outcome.{Outcome}
+use Rattle.steps.specs.Chain.{startChain, startCall, startRows}
+use Rattle.steps.specs.Node.{NodeGives}
+use Rattle.steps.specs.Relay.{Way, node, client, outcomeOf, outcomeNumber, packetSent, relayCall, RelayGives}
+use Rattle.steps.specs.Control.{ChainGives, FenceGives, CopyGives, EnterGives, openCall, openRows, activateCall, cancelCall, removeCall}
+use Rattle.steps.proofs.ChainRules.{start-judged}
+use Rattle.steps.proofs.Control.{open-judged}
+use Rattle.steps.proofs.NodeGives.{done-at-0}
+use Rattle.claims.specs.Bytes.{EventB, asking, relaying, stepping, opening, fencing, copying, activating, cancelling, removing, entering, halting, StateB, afterRelay, afterNode, afterControl, afterControlAt, execB, ReachB, startB, stepB}
+use Rattle.claims.specs.Events.{StartEvent, BlankEvent, NodeEvent, RelayEvent, ControlEvent, OpenEvent, FenceEvent, EnterEvent, CopyEvent}
+use Rattle.claims.specs.Caller.{Caller, begins, asks, relays, steps, opens, fences, copies, activates, cancels, removes, enters, halts}
+use Rattle.claims.proofs.Images.{refused}
+
+pub node-event : {t p out : List ℕ} {n : ℕ} {t′ out′ : List ℕ} → NodeGives t p out n t′ out′ → NodeEvent t p out n t′ out′
+unfolding execB
+node-event {t} {p} {out} {n} {t′} {out′} g = record {
+  event = λ s j e. let h = subst (λ (t : List ℕ). NodeGives t p out n t′ out′) (sym e) g in λ i. afterNode j p out s (sym (h .number) i) (sym (h .table) i) (sym (h .outlet) i);
+}
+
+-- the number of the outcome is the number of the call
+outcome-number : (o : Out Way) → outcomeNumber (outcomeOf o) ≡ numberOf o
+outcome-number (refuse n) = refl
+outcome-number (ok (node j q)) = refl
+outcome-number (ok (client q)) = refl
+
+pub relay-event : {r : Chain} {p out : List ℕ} {o : Outcome} {out′ : List ℕ} → RelayGives r p out o out′ → RelayEvent r p out o out′
+unfolding execB
+relay-event {r} {p} {out} {o} {out′} g = record { asks = event asking; relays = event relaying }
+  where
+    event : (f : List ℕ → List ℕ → EventB) (s : StateB) → s .chain ≡ r
+        → afterRelay (f p out) s (numberOf (relayCall (s .chain) p out)) (left out (λ w. sentIn out (packetSent w)) (relayCall (s .chain) p out)) ≡ afterRelay (f p out) s (outcomeNumber o) out′
+    event f s e =
+        let h = subst (λ (r : Chain). RelayGives r p out o out′) (sym e) g in
+        let number = ap outcomeNumber (h .outcome) ∙ outcome-number (relayCall (s .chain) p out) in
+        λ i. afterRelay (f p out) s (sym number i) (sym (h .outlet) i)
+
+-- ---- the controller, on the record alone
+
+-- an event that stores what a call on the record gives
+control-event : (e : EventB) (call : Chain → Out Chain) {r : Chain} {n : ℕ} {r′ : Chain}
+    → ((s : StateB) → execB e s ≡ afterControl e s (numberOf (call (s .chain))) (left (s .chain) (λ r. r) (call (s .chain)))) → ChainGives r (call r) n r′ → ControlEvent e r n r′
+control-event e call {r} {n} {r′} is g = record {
+  event = λ s q.
+      let h = subst (λ (r : Chain). ChainGives r (call r) n r′) (sym q) g in
+      is s ∙ (λ i. afterControl e s (sym (h .number) i) (sym (h .chain) i));
+}
+
+pub activate-event : {r : Chain} {n : ℕ} {r′ : Chain} → ChainGives r (activateCall r) n r′ → ControlEvent activating r n r′
+unfolding execB
+activate-event g = control-event activating activateCall (λ s. refl) g
+
+pub cancel-event : {r : Chain} {n : ℕ} {r′ : Chain} → ChainGives r (cancelCall r) n r′ → ControlEvent cancelling r n r′
+unfolding execB
+cancel-event g = control-event cancelling cancelCall (λ s. refl) g
+
+pub remove-event : {r : Chain} {id n : ℕ} {r′ : Chain} → ChainGives r (removeCall r id) n r′ → ControlEvent (removing id) r n r′
+unfolding execB
+remove-event {id = id} g = control-event (removing id) (λ r. removeCall r id) (λ s. refl) g
+
+-- ---- open
+
+pub open-event : {r : Chain} {after : Bool} {named fresh n : ℕ} {r′ : Chain} → ChainGives r (openCall r after named fresh) n r′ → OpenEvent r after named fresh n r′
+unfolding execB
+open-event {r} {after} {named} {fresh} {n} {r′} g = record {
+  event = λ s q.
+      let h = subst (λ (r : Chain). ChainGives r (openCall r after named fresh) n r′) (sym q) g in
+      let o = openCall (s .chain) after named fresh in
+      (λ i. afterControlAt (opening after named fresh) s (sym (h .number) i) (sym (h .chain) i) fresh (table (s .chain) (s .table fresh) o refl i))
+      ∙ ap (λ (t : List ℕ). afterControlAt (opening after named fresh) s n r′ fresh t)
+      (ap (λ (m : ℕ). pick (eqb m 0) (blankBytes fresh (s .chain .count)) (s .table fresh)) (sym (h .number)) ∙ ap (λ (r : Chain). pick (eqb n 0) (blankBytes fresh (r .count)) (s .table fresh)) q);
+}
+  where
+    table : (r : Chain) (t : List ℕ) (o : Out Chain) → openCall r after named fresh ≡ o
+        → left t (λ r′. blankBytes fresh (r .count)) o ≡ pick (eqb (numberOf o) 0) (blankBytes fresh (r .count)) t
+    table r t (refuse m) e = sym (pick-false _ _ _ (ne-eqb m 0 (refused (openRows r after named fresh) _ m (open-judged r after named fresh) e)))
+    table r t (ok r′) e = sym (pick-true _ _ _ refl)
+
+-- ---- the controller, with tables
+
+pub fence-event : {r : Chain} {t : List ℕ} {n : ℕ} {r′ : Chain} {t′ : List ℕ} → FenceGives r t n r′ t′ → FenceEvent r t n r′ t′
+unfolding execB
+fence-event {r} {t} {n} {r′} {t′} g = record {
+  event = λ s j q e.
+      let h = subst₂ (λ (r : Chain) (t : List ℕ). FenceGives r t n r′ t′) (sym q) (sym e) g in
+      λ i. afterControlAt (fencing j) s (sym (h .number) i) (sym (h .chain) i) j (sym (h .table) i);
+}
+
+pub copy-event : {r : Chain} {k : ℕ} {named fresh : List ℕ} {n : ℕ} {r′ : Chain} {fresh′ : List ℕ} → CopyGives r k named fresh n r′ fresh′ → CopyEvent r k named fresh n r′ fresh′
+unfolding execB
+copy-event {r} {k} {named} {fresh} {n} {r′} {fresh′} g = record {
+  event = λ s a b q d e.
+      let f = subst₂ (λ (x y : List ℕ). CopyGives r k x y n r′ fresh′) (sym d) (sym e) g in
+      let h = subst (λ (r : Chain). CopyGives r k (s .table a) (s .table b) n r′ fresh′) (sym q) f in
+      λ i. afterControlAt (copying k a b) s (sym (h .number) i) (sym (h .chain) i) b (sym (h .table) i);
+}
+
+pub enter-event : {r : Chain} {t : List ℕ} {id : ℕ} {key : List ℕ} {n : ℕ} {t′ : List ℕ} → EnterGives r t id key n t′ → EnterEvent r t id key n t′
+unfolding execB
+enter-event {r} {t} {id} {key} {n} {t′} g = record {
+  event = λ s j q e.
+      let h = subst₂ (λ (r : Chain) (t : List ℕ). EnterGives r t id key n t′) (sym q) (sym e) g in
+      λ i. afterControlAt (entering j id key) s (sym (h .number) i) (q i) j (sym (h .table) i);
+}
+
+-- ---- the start
+
+pub start-event : {length : ℕ} {places : List ℕ} {count n : ℕ} {r : Chain} → _≡_ {A = ℕ} n (numberOf (startCall length places count)) → r ≡ startChain length places count → StartEvent length places count n r
+unfolding startCall
+start-event {length} {places} {count} {n} {r} e q = record {
+  start = λ z.
+      let (c, is) = done-at-0 (startRows length places count) (startCall length places count) (start-judged length places count) (sym e ∙ z) in
+      is ∙ (sym (past _ _ _ _ is .1) ∙ ap ok (sym q));
+}
+
+pub blank-event : {t : List ℕ} {id count n : ℕ} {t′ : List ℕ} → BlankGives t id count n t′ → BlankEvent id count n t′
+unfolding blankCall
+blank-event {t} {id} {count} g = record {
+  blank = λ z.
+      let (b, is) = done-at-0 (blankRows t id count) (blankCall t id count) (blank-judged t id count) (sym (g .number) ∙ z) in
+      g .table ∙ (ap (left t (λ b. b)) is ∙ sym (ok-inj (past _ _ _ _ is .1)));
+}
+
+-- ---- a caller that stores what each call leaves is in the system over bytes
+
+-- the table of a new node, as the caller makes it, is the one that open stores
+fresh-table : {t t′ u : List ℕ} {id count : ℕ} (n : ℕ) → (n ≡ 0 → BlankGives t id count 0 t′) → ((n ≡ 0 → ⊥) → t′ ≡ u) → pick (eqb n 0) (blankBytes id count) u ≡ t′
+fresh-table {t′ = t′} {u = u} {id = id} {count = count} n b k =
+    pick-case (λ (x : List ℕ). x ≡ t′) (eqb n 0) (blankBytes id count) u (λ e. sym (blank-event (b (eqb-true n 0 e)) .blank refl)) (λ e. sym (k (eqb-false n 0 e)))
+
+pub caller-reaches : {s : StateB} → Caller s → ReachB s
+caller-reaches (begins z) = startB z
+caller-reaches (asks {s = s} c p out en o out′ g) = subst ReachB (relay-event g .asks s refl) (stepB (caller-reaches c) (asking p out) en)
+caller-reaches (relays {s = s} c p out en o out′ g) = subst ReachB (relay-event g .relays s refl) (stepB (caller-reaches c) (relaying p out) en)
+caller-reaches (steps {s = s} c j p out en n t′ out′ g) = subst ReachB (node-event g .event s j refl) (stepB (caller-reaches c) (stepping j p out) en)
+caller-reaches (opens {s = s} c after named fresh en n r′ g t t′ b k) =
+    subst ReachB (open-event g .event s refl ∙ ap (afterControlAt (opening after named fresh) s n r′ fresh) (fresh-table n b k)) (stepB (caller-reaches c) (opening after named fresh) en)
+caller-reaches (fences {s = s} c j en n r′ t′ g) = subst ReachB (fence-event g .event s j refl refl) (stepB (caller-reaches c) (fencing j) en)
+caller-reaches (copies {s = s} c i a b en n r′ t′ g) = subst ReachB (copy-event g .event s a b refl refl refl) (stepB (caller-reaches c) (copying i a b) en)
+caller-reaches (activates {s = s} c n r′ g) = subst ReachB (activate-event g .event s refl) (stepB (caller-reaches c) activating tt)
+caller-reaches (cancels {s = s} c n r′ g) = subst ReachB (cancel-event g .event s refl) (stepB (caller-reaches c) cancelling tt)
+caller-reaches (removes {s = s} c id en n r′ g) = subst ReachB (remove-event g .event s refl) (stepB (caller-reaches c) (removing id) en)
+caller-reaches (enters {s = s} c j id key en n t′ g) = subst ReachB (enter-event g .event s j refl refl) (stepB (caller-reaches c) (entering j id key) en)
+caller-reaches (halts c j) = stepB (caller-reaches c) (halting j) tt

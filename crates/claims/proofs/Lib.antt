@@ -1,0 +1,11 @@
+pub mod Decode
+pub mod Calls
+pub mod Images
+pub mod Bridge
+pub mod Entries
+pub mod Said
+pub mod Headline
+pub mod Live
+pub mod Events
+pub mod Facts
+pub mod Whole

@@ -1,0 +1,4 @@
+pub mod Bytes
+pub mod Headline
+pub mod Events
+pub mod Caller
