@@ -67,8 +67,8 @@ static struct version version_at(unsigned node, size_t key)
     struct version made = {0, 0};
     const uint8_t *slot = slot_of(node, key);
     if (slot != NULL) {
-        made.session = (uint16_t)number(slot + REGISTER_SLOT_SESSION_AT, 2);
-        made.sequence = number(slot + REGISTER_SLOT_SEQUENCE_AT, 4);
+        made.session = (uint16_t)number(slot + REGISTER_SLOT_SESSION_AT, sizeof made.session);
+        made.sequence = number(slot + REGISTER_SLOT_SEQUENCE_AT, sizeof made.sequence);
     }
     return made;
 }
@@ -161,26 +161,34 @@ static void check_packet(unsigned node, const uint8_t *packet)
 
 /* ---- All nodes, after every step ---- */
 
-static void check_key(const struct register_record *record, size_t key)
+/* For each key no chain node is behind a later one. */
+static void check_order(const struct register_record *record, size_t key)
 {
-    unsigned node;
     size_t place;
-    for (node = 1; node < NODES; node++)
-        check_slot(node, key);
-    for (place = 0; place < record->length; place++) {
-        node = record->ids[place];
-        if (is_less(version_at(node, key), acknowledged[key]))
-            violated("an acknowledged write is not held by every chain node", key, node);
-        if (place > 0 && is_less(version_at(record->ids[place - 1], key), version_at(node, key)))
+    for (place = 1; place < record->length; place++)
+        if (is_less(version_at(record->ids[place - 1], key), version_at(record->ids[place], key)))
             violated("a chain node is behind a later one", key, record->ids[place - 1]);
-    }
+}
+
+/* An acknowledged write is held by every chain node from then on. */
+static void check_held(const struct register_record *record, size_t key)
+{
+    size_t place;
+    for (place = 0; place < record->length; place++)
+        if (is_less(version_at(record->ids[place], key), acknowledged[key]))
+            violated("an acknowledged write is not held by every chain node", key, record->ids[place]);
 }
 
 static void check_all(const struct register_record *record)
 {
     size_t key;
-    for (key = 0; key < KEYS; key++)
-        check_key(record, key);
+    unsigned node;
+    for (key = 0; key < KEYS; key++) {
+        for (node = 1; node < NODES; node++)
+            check_slot(node, key);
+        check_order(record, key);
+        check_held(record, key);
+    }
 }
 
 #endif

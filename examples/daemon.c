@@ -127,7 +127,8 @@ static void send_query(uint8_t op, size_t key)
 static void client_moves(void)
 {
     static const uint8_t ops[] = {REGISTER_READ, REGISTER_READ, REGISTER_WRITE, REGISTER_WRITE, REGISTER_DELETE};
-    send_query(ops[below(sizeof ops)], below(KEYS));
+    size_t key = below(KEYS);
+    send_query(ops[below(sizeof ops)], key);
 }
 
 /* ---- Nodes and the relay take packets ---- */
@@ -143,7 +144,7 @@ static void node_takes(uint16_t node, const uint8_t *packet, size_t length)
     if (refusal != REGISTER_DONE)
         return;
     count.at_nodes++;
-    count.reads += outlet[0] == REGISTER_READ;
+    count.reads += outlet[REGISTER_OP_AT] == REGISTER_READ;
     check_packet(node, outlet);
     post(RELAY, outlet);
 }
@@ -152,7 +153,7 @@ static void node_takes(uint16_t node, const uint8_t *packet, size_t length)
 static struct register_record record_for(const uint8_t *packet)
 {
     struct register_record made = record;
-    if (shortcut == READS_AT_OLD_TAIL && packet[0] == REGISTER_READ)
+    if (shortcut == READS_AT_OLD_TAIL && packet[REGISTER_OP_AT] == REGISTER_READ)
         made.kind = REGISTER_NO_CHANGE;
     return made;
 }
@@ -170,7 +171,7 @@ static void relay_takes(const uint8_t *packet, size_t length)
     if (hop.node != 0)
         post(hop.node, outlet);
     else
-        count.written += outlet[1] == REGISTER_ANSWER_WRITTEN;
+        count.written += outlet[REGISTER_ANSWER_AT] == REGISTER_ANSWER_WRITTEN;
 }
 
 static void deliver(uint16_t to, const uint8_t *packet)
@@ -285,7 +286,7 @@ static void cancel(void)
     say("the change is given up");
 }
 
-/* The next step of the change that is open; it is given up where a halted node holds it up, and now and then at will. */
+/* The next step of the change that is open; it is given up where a halted node holds it up, and sometimes at will. */
 static void go_on_with_change(void)
 {
     if (halted[record.named] || halted[record.fresh] || percent(2))
@@ -355,7 +356,8 @@ static void controller_moves(void)
             halt(record.named);
         go_on_with_change();
     } else if (percent(20)) {
-        enter_key(chain_node(), below(KEYS));
+        size_t key = below(KEYS);
+        enter_key(chain_node(), key);
     } else {
         look_after_chain();
     }

@@ -1,5 +1,9 @@
 /* The register for C: the calls of libregister.a, and document 01's numbers and sizes under their names.
  *
+ * The loop of a daemon: what comes from a client or a node goes through register_step_relay; what that sends to a node
+ * goes through register_step_node, with the table of this node; and what that makes comes back from the node.
+ * examples/daemon.c shows it, with the controller's steps.
+ *
  * Every call takes any input and ends. It returns REGISTER_DONE (0), or a refusal: the lowest of document 01's numbers
  * whose condition holds, and then nothing that was lent to it has changed. register_words tells a refusal in words.
  *
@@ -87,7 +91,21 @@ enum {
 #define REGISTER_TABLE_SIZE(count) ((size_t)REGISTER_HEAD_SIZE + (size_t)REGISTER_SLOT_SIZE * (size_t)(count))
 
 /* Where things stand in a packet, in a table's head and in a slot; all numbers in them are big-endian. */
-enum { REGISTER_LENGTH_AT = 18, REGISTER_KEY_AT = 24 };
+enum {
+    REGISTER_OP_AT = 0,
+    REGISTER_ANSWER_AT = 1,
+    REGISTER_FROM_AT = 2,
+    REGISTER_TO_AT = 4,
+    REGISTER_CLIENT_AT = 6,
+    REGISTER_REQUEST_AT = 8,
+    REGISTER_STAMP_AT = 12,
+    REGISTER_SESSION_AT = 16,
+    REGISTER_LENGTH_AT = 18,
+    REGISTER_ZERO_AT = 19,
+    REGISTER_SEQUENCE_AT = 20,
+    REGISTER_KEY_AT = 24,
+    REGISTER_VALUE_AT = 40
+};
 enum { REGISTER_FENCE_AT = 0, REGISTER_ID_AT = 4, REGISTER_COUNT_AT = 6 };
 enum {
     REGISTER_SLOT_KEY_AT = 0,
@@ -139,139 +157,86 @@ static inline const char *register_words(int refusal)
     }
 }
 
-/* ---- The chain record ---- */
+/* ---- The chain record and the fields of a packet ---- */
 
-/* With no change open the last four are ignored coming in and 0 going out. */
-struct register_record {
-    uint8_t length;                    /* of the chain */
-    uint16_t ids[REGISTER_MOST_NODES]; /* in chain order, the unused places 0 */
-    uint32_t wiring;
-    uint16_t session;
-    uint16_t highest; /* id ever used */
-    uint16_t count;   /* of the slots in each table */
-    uint8_t kind;     /* of the change that is open */
-    uint16_t named;   /* the node whose slots are copied */
-    uint16_t fresh;   /* the new node's id */
-    uint8_t fenced;   /* 0 or 1 */
-    uint16_t next;    /* slot to copy */
-};
+/* Each struct is a list of its members, and crosses the boundary as that many numbers in that order: ONE for a member,
+ * EIGHT for the places of the chain. The struct, the count of its numbers and both ways between struct and numbers are
+ * made of the list, so that a later member is one line. */
+#define REGISTER_MEMBER(type, name) type name;
+#define REGISTER_MEMBERS(type, name) type name[REGISTER_MOST_NODES];
+#define REGISTER_NUMBER(type, name) +1
+#define REGISTER_NUMBERS(type, name) +REGISTER_MOST_NODES
+#define REGISTER_SPREAD(type, name) *numbers++ = from->name;
+#define REGISTER_SPREADS(type, name) \
+    for (size_t place = 0; place < REGISTER_MOST_NODES; place++) *numbers++ = from->name[place];
+#define REGISTER_TAKE(type, name) to->name = (type)*numbers++;
+#define REGISTER_TAKES(type, name) \
+    for (size_t place = 0; place < REGISTER_MOST_NODES; place++) to->name[place] = (type)*numbers++;
 
-/* The record as it crosses the boundary: this many numbers, each at its place. */
+/* The chain record. With no change open the last four are ignored coming in and 0 going out. */
+#define REGISTER_RECORD(ONE, EIGHT)                                     \
+    ONE(uint8_t, length)   /* of the chain */                           \
+    EIGHT(uint16_t, ids)   /* in chain order, the unused places 0 */    \
+    ONE(uint32_t, wiring)                                               \
+    ONE(uint16_t, session)                                              \
+    ONE(uint16_t, highest) /* id ever used */                           \
+    ONE(uint16_t, count)   /* of the slots in each table */             \
+    ONE(uint8_t, kind)     /* of the change: none, before or after */   \
+    ONE(uint16_t, named)   /* the node whose slots are copied */        \
+    ONE(uint16_t, fresh)   /* the new node's id */                      \
+    ONE(uint8_t, fenced)   /* 0 or 1 */                                 \
+    ONE(uint16_t, next)    /* slot to copy */
+
+/* All of a packet but its key and its value, which are bytes of the packet. */
+#define REGISTER_FIELDS(ONE, EIGHT)         \
+    ONE(uint8_t, op)                        \
+    ONE(uint8_t, answer)                    \
+    ONE(uint16_t, from)                     \
+    ONE(uint16_t, to)                       \
+    ONE(uint16_t, client)                   \
+    ONE(uint32_t, request)                  \
+    ONE(uint32_t, stamp)                    \
+    ONE(uint16_t, session)                  \
+    ONE(uint32_t, sequence)                 \
+    ONE(uint8_t, length) /* of the value */
+
+struct register_record { REGISTER_RECORD(REGISTER_MEMBER, REGISTER_MEMBERS) };
+struct register_fields { REGISTER_FIELDS(REGISTER_MEMBER, REGISTER_MEMBERS) };
+
 enum {
-    REGISTER_RECORD_LENGTH = 0,
-    REGISTER_RECORD_IDS = 1,
-    REGISTER_RECORD_WIRING = 9,
-    REGISTER_RECORD_SESSION = 10,
-    REGISTER_RECORD_HIGHEST = 11,
-    REGISTER_RECORD_COUNT = 12,
-    REGISTER_RECORD_KIND = 13,
-    REGISTER_RECORD_NAMED = 14,
-    REGISTER_RECORD_FRESH = 15,
-    REGISTER_RECORD_FENCED = 16,
-    REGISTER_RECORD_NEXT = 17,
-    REGISTER_RECORD_NUMBERS = 18
+    REGISTER_RECORD_NUMBERS = 0 REGISTER_RECORD(REGISTER_NUMBER, REGISTER_NUMBERS),
+    REGISTER_FIELD_NUMBERS = 0 REGISTER_FIELDS(REGISTER_NUMBER, REGISTER_NUMBERS)
 };
 
-static inline void register_record_spread(const struct register_record *record, uint32_t *numbers)
+static inline void register_record_spread(const struct register_record *from, uint32_t *numbers)
 {
-    size_t place;
-    numbers[REGISTER_RECORD_LENGTH] = record->length;
-    for (place = 0; place < REGISTER_MOST_NODES; place++)
-        numbers[REGISTER_RECORD_IDS + place] = record->ids[place];
-    numbers[REGISTER_RECORD_WIRING] = record->wiring;
-    numbers[REGISTER_RECORD_SESSION] = record->session;
-    numbers[REGISTER_RECORD_HIGHEST] = record->highest;
-    numbers[REGISTER_RECORD_COUNT] = record->count;
-    numbers[REGISTER_RECORD_KIND] = record->kind;
-    numbers[REGISTER_RECORD_NAMED] = record->named;
-    numbers[REGISTER_RECORD_FRESH] = record->fresh;
-    numbers[REGISTER_RECORD_FENCED] = record->fenced;
-    numbers[REGISTER_RECORD_NEXT] = record->next;
+    REGISTER_RECORD(REGISTER_SPREAD, REGISTER_SPREADS)
+}
+
+static inline void register_fields_spread(const struct register_fields *from, uint32_t *numbers)
+{
+    REGISTER_FIELDS(REGISTER_SPREAD, REGISTER_SPREADS)
 }
 
 /* Takes the numbers back into the record, if the call that had them was done; returns what the call returned. */
-static inline int register_record_take(int refusal, struct register_record *record, const uint32_t *numbers)
+static inline int register_record_take(int refusal, struct register_record *to, const uint32_t *numbers)
 {
-    size_t place;
-    if (refusal != REGISTER_DONE)
-        return refusal;
-    record->length = (uint8_t)numbers[REGISTER_RECORD_LENGTH];
-    for (place = 0; place < REGISTER_MOST_NODES; place++)
-        record->ids[place] = (uint16_t)numbers[REGISTER_RECORD_IDS + place];
-    record->wiring = numbers[REGISTER_RECORD_WIRING];
-    record->session = (uint16_t)numbers[REGISTER_RECORD_SESSION];
-    record->highest = (uint16_t)numbers[REGISTER_RECORD_HIGHEST];
-    record->count = (uint16_t)numbers[REGISTER_RECORD_COUNT];
-    record->kind = (uint8_t)numbers[REGISTER_RECORD_KIND];
-    record->named = (uint16_t)numbers[REGISTER_RECORD_NAMED];
-    record->fresh = (uint16_t)numbers[REGISTER_RECORD_FRESH];
-    record->fenced = (uint8_t)numbers[REGISTER_RECORD_FENCED];
-    record->next = (uint16_t)numbers[REGISTER_RECORD_NEXT];
+    if (refusal == REGISTER_DONE) {
+        REGISTER_RECORD(REGISTER_TAKE, REGISTER_TAKES)
+    }
     return refusal;
 }
 
-/* ---- The fields of a packet ---- */
-
-/* All of a packet but its key and its value, which are bytes of the packet. */
-struct register_fields {
-    uint8_t op;
-    uint8_t answer;
-    uint16_t from;
-    uint16_t to;
-    uint16_t client;
-    uint32_t request;
-    uint32_t stamp;
-    uint16_t session;
-    uint32_t sequence;
-    uint8_t length; /* of the value */
-};
-
-/* The fields as they cross the boundary. */
-enum {
-    REGISTER_FIELD_OP = 0,
-    REGISTER_FIELD_ANSWER = 1,
-    REGISTER_FIELD_FROM = 2,
-    REGISTER_FIELD_TO = 3,
-    REGISTER_FIELD_CLIENT = 4,
-    REGISTER_FIELD_REQUEST = 5,
-    REGISTER_FIELD_STAMP = 6,
-    REGISTER_FIELD_SESSION = 7,
-    REGISTER_FIELD_SEQUENCE = 8,
-    REGISTER_FIELD_LENGTH = 9,
-    REGISTER_FIELD_NUMBERS = 10
-};
-
-static inline void register_fields_spread(const struct register_fields *fields, uint32_t *numbers)
+/* The same for the fields of a packet. */
+static inline int register_fields_take(int refusal, struct register_fields *to, const uint32_t *numbers)
 {
-    numbers[REGISTER_FIELD_OP] = fields->op;
-    numbers[REGISTER_FIELD_ANSWER] = fields->answer;
-    numbers[REGISTER_FIELD_FROM] = fields->from;
-    numbers[REGISTER_FIELD_TO] = fields->to;
-    numbers[REGISTER_FIELD_CLIENT] = fields->client;
-    numbers[REGISTER_FIELD_REQUEST] = fields->request;
-    numbers[REGISTER_FIELD_STAMP] = fields->stamp;
-    numbers[REGISTER_FIELD_SESSION] = fields->session;
-    numbers[REGISTER_FIELD_SEQUENCE] = fields->sequence;
-    numbers[REGISTER_FIELD_LENGTH] = fields->length;
-}
-
-/* Takes the numbers back into the fields, as register_record_take does into a record. */
-static inline int register_fields_take(int refusal, struct register_fields *fields, const uint32_t *numbers)
-{
-    if (refusal != REGISTER_DONE)
-        return refusal;
-    fields->op = (uint8_t)numbers[REGISTER_FIELD_OP];
-    fields->answer = (uint8_t)numbers[REGISTER_FIELD_ANSWER];
-    fields->from = (uint16_t)numbers[REGISTER_FIELD_FROM];
-    fields->to = (uint16_t)numbers[REGISTER_FIELD_TO];
-    fields->client = (uint16_t)numbers[REGISTER_FIELD_CLIENT];
-    fields->request = numbers[REGISTER_FIELD_REQUEST];
-    fields->stamp = numbers[REGISTER_FIELD_STAMP];
-    fields->session = (uint16_t)numbers[REGISTER_FIELD_SESSION];
-    fields->sequence = numbers[REGISTER_FIELD_SEQUENCE];
-    fields->length = (uint8_t)numbers[REGISTER_FIELD_LENGTH];
+    if (refusal == REGISTER_DONE) {
+        REGISTER_FIELDS(REGISTER_TAKE, REGISTER_TAKES)
+    }
     return refusal;
 }
+
+/* ---- A packet's bytes ---- */
 
 /* The size of the packet at the start of an outlet that a call has just filled. */
 static inline size_t register_packet_size(const uint8_t *outlet)
@@ -288,7 +253,7 @@ static inline const uint8_t *register_packet_key(const uint8_t *packet)
 /* The value of a well-formed packet, a stretch of its bytes as long as its length says. */
 static inline const uint8_t *register_packet_value(const uint8_t *packet)
 {
-    return packet + REGISTER_FRONT_SIZE;
+    return packet + REGISTER_VALUE_AT;
 }
 
 /* ---- What the archive exports: the wrappers below call these, other code calls the wrappers ---- */

@@ -1,6 +1,7 @@
 // The register's calls over the archive. All that is lent lies against pages that may not be touched; a call is made
 // by the archive's export, and by the header's wrapper where the wrapper's types can hold its input.
 
+use crate::rules::{Record, PLACES};
 use std::ffi::c_void;
 use std::{mem, ptr, slice};
 
@@ -126,101 +127,82 @@ unsafe fn taken<T: Copy>(at: *const T, length: usize) -> Vec<T> {
 
 // ---- The header's structs ----
 
+/// The struct of these numbers; none if they are not as many as it has, or one is too large for its member.
+pub fn record_held(numbers: &[u32]) -> Option<Record> {
+    let &[length, ref ids @ .., wiring, session, highest, count, kind, named, fresh, fenced, next] = numbers else {
+        return None;
+    };
+    let ids: &[u32; PLACES] = ids.try_into().ok()?;
+    let mut places = [0; PLACES];
+    for (place, &id) in places.iter_mut().zip(ids) {
+        *place = id.try_into().ok()?;
+    }
+    Some(Record {
+        length: length.try_into().ok()?,
+        ids: places,
+        wiring,
+        session: session.try_into().ok()?,
+        highest: highest.try_into().ok()?,
+        count: count.try_into().ok()?,
+        kind: kind.try_into().ok()?,
+        named: named.try_into().ok()?,
+        fresh: fresh.try_into().ok()?,
+        fenced: fenced.try_into().ok()?,
+        next: next.try_into().ok()?,
+    })
+}
+
+pub fn record_numbers(record: &Record) -> Vec<u32> {
+    let mut numbers = vec![u32::from(record.length)];
+    numbers.extend(record.ids.map(u32::from));
+    numbers.push(record.wiring);
+    numbers.extend([record.session, record.highest, record.count, record.kind.into()].map(u32::from));
+    numbers.extend([record.named, record.fresh, record.fenced.into(), record.next].map(u32::from));
+    numbers
+}
+
+/// All of a packet but its key and its value.
 #[repr(C)]
 #[derive(Clone, Copy)]
-struct CRecord {
-    length: u8,
-    ids: [u16; 8],
-    wiring: u32,
-    session: u16,
-    highest: u16,
-    count: u16,
-    kind: u8,
-    named: u16,
-    fresh: u16,
-    fenced: u8,
-    next: u16,
+pub struct Fields {
+    pub op: u8,
+    pub answer: u8,
+    pub from: u16,
+    pub to: u16,
+    pub client: u16,
+    pub request: u32,
+    pub stamp: u32,
+    pub session: u16,
+    pub sequence: u32,
+    pub length: u8,
 }
 
-impl CRecord {
-    /// None if the numbers are not as many as the struct has, or one is too large for its place.
-    fn of(numbers: &[u32]) -> Option<CRecord> {
-        let &[length, ref ids @ .., wiring, session, highest, count, kind, named, fresh, fenced, next] = numbers else {
-            return None;
-        };
-        let ids: &[u32; 8] = ids.try_into().ok()?;
-        let mut places = [0; 8];
-        for (place, &id) in places.iter_mut().zip(ids) {
-            *place = id.try_into().ok()?;
-        }
-        Some(CRecord {
-            length: length.try_into().ok()?,
-            ids: places,
-            wiring,
-            session: session.try_into().ok()?,
-            highest: highest.try_into().ok()?,
-            count: count.try_into().ok()?,
-            kind: kind.try_into().ok()?,
-            named: named.try_into().ok()?,
-            fresh: fresh.try_into().ok()?,
-            fenced: fenced.try_into().ok()?,
-            next: next.try_into().ok()?,
-        })
-    }
+/// None as in `record_held`.
+pub fn fields_held(numbers: &[u32]) -> Option<Fields> {
+    let &[op, answer, from, to, client, request, stamp, session, sequence, length] = numbers else { return None };
+    Some(Fields {
+        op: op.try_into().ok()?,
+        answer: answer.try_into().ok()?,
+        from: from.try_into().ok()?,
+        to: to.try_into().ok()?,
+        client: client.try_into().ok()?,
+        request,
+        stamp,
+        session: session.try_into().ok()?,
+        sequence,
+        length: length.try_into().ok()?,
+    })
+}
 
-    fn numbers(&self) -> Vec<u32> {
-        let mut numbers = vec![u32::from(self.length)];
-        numbers.extend(self.ids.map(u32::from));
-        numbers.push(self.wiring);
-        numbers.extend([self.session, self.highest, self.count, u16::from(self.kind)].map(u32::from));
-        numbers.extend([self.named, self.fresh, u16::from(self.fenced), self.next].map(u32::from));
-        numbers
-    }
+pub fn fields_numbers(fields: &Fields) -> Vec<u32> {
+    let mut numbers: Vec<u32> = [fields.op, fields.answer].map(u32::from).to_vec();
+    numbers.extend([fields.from, fields.to, fields.client].map(u32::from));
+    numbers.extend([fields.request, fields.stamp, fields.session.into(), fields.sequence, fields.length.into()]);
+    numbers
 }
 
 #[repr(C)]
-#[derive(Clone, Copy)]
-struct CFields {
-    op: u8,
-    answer: u8,
-    from: u16,
-    to: u16,
-    client: u16,
-    request: u32,
-    stamp: u32,
-    session: u16,
-    sequence: u32,
-    length: u8,
-}
-
-impl CFields {
-    /// None as in `CRecord::of`.
-    fn of(numbers: &[u32]) -> Option<CFields> {
-        let &[op, answer, from, to, client, request, stamp, session, sequence, length] = numbers else { return None };
-        Some(CFields {
-            op: op.try_into().ok()?,
-            answer: answer.try_into().ok()?,
-            from: from.try_into().ok()?,
-            to: to.try_into().ok()?,
-            client: client.try_into().ok()?,
-            request,
-            stamp,
-            session: session.try_into().ok()?,
-            sequence,
-            length: length.try_into().ok()?,
-        })
-    }
-
-    fn numbers(&self) -> Vec<u32> {
-        let mut numbers: Vec<u32> = [self.op, self.answer].map(u32::from).to_vec();
-        numbers.extend([self.from, self.to, self.client].map(u32::from));
-        numbers.extend([self.request, self.stamp, self.session.into(), self.sequence, self.length.into()]);
-        numbers
-    }
-}
-
-#[repr(C)]
-struct CHop {
+struct Hop {
     refusal: u8,
     node: u16,
 }
@@ -260,18 +242,18 @@ extern "C" {
     fn shim_record_size() -> usize;
     fn shim_fields_size() -> usize;
     fn shim_step_node(t: BytesMut, tl: usize, p: Bytes, pl: usize, o: BytesMut, ol: usize) -> i32;
-    fn shim_step_relay(r: *const CRecord, p: Bytes, pl: usize, o: BytesMut, ol: usize) -> CHop;
-    fn shim_open_change(r: *mut CRecord, kind: u8, named: u16, fresh: u16) -> i32;
-    fn shim_fence_table(r: *mut CRecord, t: BytesMut, tl: usize) -> i32;
-    fn shim_copy_slot(r: *mut CRecord, slot: u16, n: Bytes, nl: usize, f: BytesMut, fl: usize) -> i32;
-    fn shim_activate_change(r: *mut CRecord) -> i32;
-    fn shim_cancel_change(r: *mut CRecord) -> i32;
-    fn shim_remove_node(r: *mut CRecord, id: u16) -> i32;
-    fn shim_enter_key(r: *const CRecord, t: BytesMut, tl: usize, id: u16, k: Bytes) -> i32;
-    fn shim_start_record(r: *mut CRecord, ids: *const u16, il: usize, count: u16) -> i32;
+    fn shim_step_relay(r: *const Record, p: Bytes, pl: usize, o: BytesMut, ol: usize) -> Hop;
+    fn shim_open_change(r: *mut Record, kind: u8, named: u16, fresh: u16) -> i32;
+    fn shim_fence_table(r: *mut Record, t: BytesMut, tl: usize) -> i32;
+    fn shim_copy_slot(r: *mut Record, slot: u16, n: Bytes, nl: usize, f: BytesMut, fl: usize) -> i32;
+    fn shim_activate_change(r: *mut Record) -> i32;
+    fn shim_cancel_change(r: *mut Record) -> i32;
+    fn shim_remove_node(r: *mut Record, id: u16) -> i32;
+    fn shim_enter_key(r: *const Record, t: BytesMut, tl: usize, id: u16, k: Bytes) -> i32;
+    fn shim_start_record(r: *mut Record, ids: *const u16, il: usize, count: u16) -> i32;
     fn shim_blank_table(t: BytesMut, tl: usize, id: u16, count: u16) -> i32;
-    fn shim_read_packet(p: Bytes, pl: usize, f: *mut CFields) -> i32;
-    fn shim_write_packet(o: BytesMut, ol: usize, f: *const CFields, k: Bytes, kl: usize, v: Bytes, vl: usize) -> i32;
+    fn shim_read_packet(p: Bytes, pl: usize, f: *mut Fields) -> i32;
+    fn shim_write_packet(o: BytesMut, ol: usize, f: *const Fields, k: Bytes, kl: usize, v: Bytes, vl: usize) -> i32;
     fn shim_check_table(t: Bytes, tl: usize) -> i32;
     fn shim_find_key(t: Bytes, tl: usize, k: Bytes, kl: usize) -> u32;
 }
@@ -306,7 +288,7 @@ impl Rooms {
     pub fn new() -> Rooms {
         // SAFETY: two functions that read nothing.
         let sizes = unsafe { [shim_record_size(), shim_fields_size()] };
-        assert_eq!(sizes, [mem::size_of::<CRecord>(), mem::size_of::<CFields>()], "the header's structs are others");
+        assert_eq!(sizes, [mem::size_of::<Record>(), mem::size_of::<Fields>()], "the header's structs are others");
         Rooms {
             record: Room::new(),
             fields: Room::new(),
@@ -348,16 +330,16 @@ impl Rooms {
     /// The call by the header's wrapper; none where its structs cannot hold the numbers.
     pub fn by_wrapper(&self, case: &Case, side: Side) -> Option<Left> {
         let lent = &case.lent;
-        let records = held(&lent.record, uses_record(case.call), CRecord::of)?;
-        let fields = held(&lent.fields, uses_fields(case.call), CFields::of)?;
+        let records = held(&lent.record, uses_record(case.call), record_held)?;
+        let fields = held(&lent.fields, uses_fields(case.call), fields_held)?;
         let at = self.place(lent, side);
         let record = self.record.place(&records, side);
         let field = self.fields.place(&fields, side);
         // SAFETY: as in `by_export`; a call that takes a struct finds one.
         unsafe {
             let number = wrapper(case, &at, record, field);
-            let records = taken(record, records.len()).iter().flat_map(CRecord::numbers).collect();
-            let fields = taken(field, fields.len()).iter().flat_map(CFields::numbers).collect();
+            let records = taken(record, records.len()).iter().flat_map(record_numbers).collect();
+            let fields = taken(field, fields.len()).iter().flat_map(fields_numbers).collect();
             Some((number, at.taken(lent, records, fields)))
         }
     }
@@ -422,7 +404,7 @@ unsafe fn export(case: &Case, at: &Placed, r: *mut u32, f: *mut u32) -> u32 {
 }
 
 #[rustfmt::skip]
-unsafe fn wrapper(case: &Case, at: &Placed, r: *mut CRecord, f: *mut CFields) -> u32 {
+unsafe fn wrapper(case: &Case, at: &Placed, r: *mut Record, f: *mut Fields) -> u32 {
     let Case { lent: l, kind, id, fresh_id, slot, count, .. } = case;
     let tl = l.table.len();
     let number = match case.call {

@@ -1,10 +1,11 @@
 // Random and damaged calls through the archive and through the reference rules: the number returned and all that was
 // lent must be the same afterwards, the outlet behind the packet and what a call only reads included.
 //
-// NATIVE_SEED and NATIVE_CASES set the seed and the number of inputs. Each input is tried by the archive's export and,
-// where its types can hold it, by the header's wrapper; once with every slice at the end of its memory and once at the
-// start. The run fails at a difference, and if a number that a call can give, or two rows of the refusal table that can
-// hold at once, did not come up.
+// NATIVE_SEED and NATIVE_CASES set the seed and the number of random inputs; inputs that no struct of the header can
+// hold come first. Each is tried by the archive's export and, where its types can hold it, by the header's wrapper,
+// once with every slice at the end of its memory and once at the start; and by the twin of tests/speed, which must make
+// the same checks. The run fails at a difference, and if a number that a call can give, or two rows of the refusal
+// table that can hold at once, did not come up.
 
 mod calls;
 #[path = "../reference/dice.rs"]
@@ -12,10 +13,12 @@ mod dice;
 mod maker;
 #[path = "../reference/rules.rs"]
 mod rules;
+#[path = "../speed/twin.rs"]
+mod twin;
 
-use calls::{Call, Case, Left, Lent, Rooms, Side, NO_SLOT, SENT};
+use calls::{fields_held, record_held, record_numbers, Call, Case, Fields, Left, Lent, Rooms, Side, NO_SLOT, SENT};
 use dice::Dice;
-use maker::{fields_of, numbers_of, Maker};
+use maker::{fields_of, Maker, KIND};
 use rules::{
     Outcome, Packet, Record, Rows, Table, Version, AFTER, BEFORE, KEY, NO_CHANGE, OUTLET, PLACES, SLOT, TABLE_HEAD,
 };
@@ -45,7 +48,7 @@ const REACH: [Reach; 15] = [
         (11, 13), (11, 15), (11, 16), (11, 17), (13, 15), (13, 16), (15, 16), (15, 17), (16, 17),
     ]),
     (Call::Fence, &[0, 1, 14, 15, 19, 22], &[(1, 14), (15, 19), (15, 22), (19, 22)]),
-    (Call::Copy, &[0, 1, 14, 15, 19], &[(1, 14), (14, 15), (14, 19), (15, 19)]),
+    (Call::Copy, &[0, 1, 14, 15, 19], &[(1, 14), (1, 15), (1, 19), (14, 15), (14, 19), (15, 19)]),
     (Call::Activate, &[0, 1, 11, 14], &[(11, 14)]),
     (Call::Cancel, &[0, 1, 14], &[]),
     (Call::Remove, &[0, 1, 11, 13, 15, 18], &[(11, 13), (11, 18), (13, 15), (13, 18)]),
@@ -66,59 +69,31 @@ const CLIENT: u32 = SENT;
 const NODE: u32 = SENT + 1;
 const FOUND: u32 = 0;
 
+/// The first word of some ways of making a call.
+const WRAPPER: &str = "wrapper";
+const TWIN: &str = "twin";
+
 /// The numbers of a packet's fields.
 const FIELDS: usize = 10;
 
 // ---- What the reference rules make of a case ----
 
-/// The record that the numbers stand for; none if they are not as many, or one does not fit its field.
+/// The record that the numbers stand for; none if they are not as many, or one does not fit its field. With no change
+/// open the numbers of a change say nothing.
 fn record_of(numbers: &[u32]) -> Option<Record> {
-    let &[length, ref ids @ .., wiring, session, highest, count, kind, named, fresh, fenced, next] = numbers else {
-        return None;
-    };
-    let ids: &[u32; PLACES] = ids.try_into().ok()?;
-    let mut places = [0; PLACES];
-    for (place, &id) in places.iter_mut().zip(ids) {
-        *place = id.try_into().ok()?;
+    let mut numbers = numbers.to_vec();
+    if numbers.get(KIND) == Some(&NO_CHANGE.into()) {
+        numbers[KIND..].fill(0);
     }
-    let none = Record {
-        length: length.try_into().ok()?,
-        ids: places,
-        wiring,
-        session: session.try_into().ok()?,
-        highest: highest.try_into().ok()?,
-        count: count.try_into().ok()?,
-        ..Record::default()
-    };
-    if kind == u32::from(NO_CHANGE) {
-        return Some(none);
-    }
-    Some(Record {
-        kind: kind.try_into().ok()?,
-        named: named.try_into().ok()?,
-        fresh: fresh.try_into().ok()?,
-        fenced: fenced.try_into().ok()?,
-        next: next.try_into().ok()?,
-        ..none
-    })
+    record_held(&numbers)
 }
 
 /// The packet that these fields, key and value stand for; none if a number does not fit its field.
 fn packet_of<'a>(fields: &[u32], key: &'a [u8], value: &'a [u8]) -> Option<Packet<'a>> {
-    let &[op, answer, from, to, client, request, stamp, session, sequence, length] = fields else { return None };
-    let packet = Packet {
-        op: op.try_into().ok()?,
-        answer: answer.try_into().ok()?,
-        from: from.try_into().ok()?,
-        to: to.try_into().ok()?,
-        client: client.try_into().ok()?,
-        request,
-        stamp,
-        version: Version { session: session.try_into().ok()?, sequence },
-        key,
-        value,
-    };
-    (length as usize == value.len()).then_some(packet)
+    let Fields { op, answer, from, to, client, request, stamp, session, sequence, length } = fields_held(fields)?;
+    let version = Version { session, sequence };
+    let packet = Packet { op, answer, from, to, client, request, stamp, version, key, value };
+    (usize::from(length) == value.len()).then_some(packet)
 }
 
 /// The lowest used slot that has the key, of the whole slots there are.
@@ -137,20 +112,20 @@ fn with_record(lent: &mut Lent, step: impl FnOnce(&mut Record, &mut Lent) -> u8)
     let mut record = record_of(&lent.record).unwrap_or_default();
     let given = step(&mut record, lent);
     if given == 0 {
-        lent.record = numbers_of(&record);
+        lent.record = record_numbers(&record);
     }
     given.into()
 }
 
 fn start(lent: &mut Lent, count: u16) -> (Rows, u32) {
     let mut ids = [0; PLACES];
-    let fits = lent.ids.len() <= PLACES && lent.record.len() == numbers_of(&Record::default()).len();
+    let fits = lent.ids.len() <= PLACES && lent.record.len() == record_numbers(&Record::default()).len();
     if fits {
         ids[..lent.ids.len()].copy_from_slice(&lent.ids);
     }
     let record = rules::start(lent.ids.len() as u8, ids, count).filter(|_| fits);
     if let Some(record) = record {
-        lent.record = numbers_of(&record);
+        lent.record = record_numbers(&record);
     }
     (broken(record.is_none()), u32::from(record.is_none()))
 }
@@ -275,7 +250,7 @@ fn input(case: &Case) -> String {
 
 fn difference(case: &Case, how: &str, rows: &Rows, expected: &Left, got: &Left) -> String {
     format!(
-        "by {how}: {}  the reference, with rows {:?}, gives {}\n{}  the archive gives {}\n{}",
+        "by {how}: {}  the reference, with rows {:?}, gives {}\n{}  the call gave {}\n{}",
         input(case),
         rows.0,
         expected.0,
@@ -307,6 +282,19 @@ extern "C" fn touched(_: i32) {
     }
 }
 
+/// The call by the speed table's twin; none where the twin has no such call.
+fn by_twin(case: &Case) -> Option<Left> {
+    let mut lent = case.lent.clone();
+    let number = match case.call {
+        Call::NodeStep => twin::node_step(&mut lent.table, &lent.packet, &mut lent.outlet).into(),
+        Call::RelayStep => twin::relay_step(&lent.record, &lent.packet, &mut lent.outlet),
+        Call::TableGood => u32::from(!twin::table_good(&lent.table)),
+        Call::Find => twin::find_number(&lent.table, &lent.key),
+        _ => return None,
+    };
+    Some((number, lent))
+}
+
 /// Every way of making the call, with its name.
 fn ways(rooms: &Rooms, case: &Case) -> Vec<(String, Left)> {
     // SAFETY: one thread.
@@ -314,8 +302,9 @@ fn ways(rooms: &Rooms, case: &Case) -> Vec<(String, Left)> {
     let mut all = vec![];
     for side in [Side::End, Side::Start] {
         all.push((format!("export, slices at the {side:?}"), rooms.by_export(case, side)));
-        all.extend(rooms.by_wrapper(case, side).map(|left| (format!("wrapper, slices at the {side:?}"), left)));
+        all.extend(rooms.by_wrapper(case, side).map(|left| (format!("{WRAPPER}, slices at the {side:?}"), left)));
     }
+    all.extend(by_twin(case).map(|left| (TWIN.to_string(), left)));
     // SAFETY: one thread.
     unsafe { NOW = ptr::null() };
     all
@@ -325,21 +314,23 @@ fn ways(rooms: &Rooms, case: &Case) -> Vec<(String, Left)> {
 
 #[derive(Default)]
 struct Counts {
-    made: u64,
-    by_wrapper: u64,
+    made: usize,
+    by_wrapper: usize,
+    by_twin: usize,
     numbers: BTreeMap<(Call, u32), u64>,
     pairs: BTreeMap<(Call, u8, u8), u64>,
 }
 
 impl Counts {
-    fn add(&mut self, case: &Case, rows: &Rows, number: u32, made: usize) {
+    fn add(&mut self, case: &Case, rows: &Rows, number: u32, ways: &[(String, Left)]) {
         let number = match case.call {
             Call::RelayStep if number > SENT => NODE,
             Call::Find if number < NO_SLOT => FOUND,
             _ => number,
         };
-        self.made += made as u64;
-        self.by_wrapper += made as u64 - 2;
+        self.made += ways.len();
+        self.by_wrapper += ways.iter().filter(|(how, _)| how.starts_with(WRAPPER)).count();
+        self.by_twin += ways.iter().filter(|(how, _)| how.starts_with(TWIN)).count();
         *self.numbers.entry((case.call, number)).or_default() += 1;
         let given = rows.given();
         for &other in rows.0.iter().filter(|&&other| other != given) {
@@ -364,11 +355,14 @@ impl Counts {
         missing
     }
 
-    /// Numbers and pairs that the calls are not known to give.
+    /// What came up and is not listed.
     fn strange(&self) -> Vec<String> {
         let known = |call| REACH.iter().find(|reach| reach.0 == call).expect("every call is listed");
         let numbers = self.numbers.keys().filter(|(call, number)| !known(*call).1.contains(number));
-        numbers.map(|(call, number)| format!("{call:?} gave {number}, which it has no row for")).collect()
+        let numbers = numbers.map(|(call, number)| format!("{call:?} gave {number}, which is not listed"));
+        let pairs = self.pairs.keys().filter(|(call, given, other)| !known(*call).2.contains(&(*given, *other)));
+        let pairs = pairs.map(|(call, given, other)| format!("{call:?}: rows {given} and {other} are not listed"));
+        numbers.chain(pairs).collect()
     }
 
     fn print(&self) {
@@ -397,18 +391,18 @@ fn setting(name: &str, default: u64) -> u64 {
 
 fn main() -> ExitCode {
     let (seed, cases) = (setting("NATIVE_SEED", SEED), setting("NATIVE_CASES", CASES));
-    println!("seed {seed}, {cases} inputs");
+    println!("seed {seed}, {cases} random inputs");
     // SAFETY: the handler ends the program.
     unsafe { signal(SEGMENT, touched) };
     let rooms = Rooms::new();
     let mut maker = Maker { dice: Dice(seed) };
     let mut counts = Counts::default();
     let mut differences = 0;
-    for index in 0..cases {
-        let case = maker.case();
+    let beyond = maker.beyond_structs();
+    for (index, case) in beyond.into_iter().chain((0..cases).map(|_| maker.case())).enumerate() {
         let (rows, expected) = by_rules(&case);
         let ways = ways(&rooms, &case);
-        counts.add(&case, &rows, expected.0, ways.len());
+        counts.add(&case, &rows, expected.0, &ways);
         for (how, got) in ways.iter().filter(|(_, got)| *got != expected) {
             println!("input {index}, {}", difference(&case, how, &rows, &expected, got));
             differences += 1;
@@ -423,7 +417,8 @@ fn main() -> ExitCode {
     for fault in &faults {
         println!("{fault}");
     }
-    println!("{} calls, {} of them by wrappers: {differences} differ", counts.made, counts.by_wrapper);
+    let Counts { made, by_wrapper, by_twin, .. } = counts;
+    println!("{made} calls, {by_wrapper} of them by wrappers, {by_twin} by the twin: {differences} differ");
     if differences == 0 && faults.is_empty() {
         ExitCode::SUCCESS
     } else {

@@ -1,7 +1,7 @@
 // Random calls of the register: tables, packets and records that keep the rules and fit each other, near every edge the
 // rules speak of, and then, now and then, damaged in a place that a rule looks at.
 
-use crate::calls::{Call, Case, Lent};
+use crate::calls::{fields_numbers, record_numbers, Call, Case, Fields, Lent};
 use crate::dice::Dice;
 use crate::rules::{
     Packet, Record, Slot, Table, Version, AFTER, BEFORE, DELETE, DELETED, ENTERED, HOLDS_VALUE, KEY, MOST_SLOTS,
@@ -51,27 +51,19 @@ const FIRST_ID: usize = 1;
 const SESSION: usize = 10;
 const HIGHEST: usize = 11;
 const COUNT: usize = 12;
-const KIND: usize = 13;
+pub const KIND: usize = 13;
 const NAMED: usize = 14;
 const FRESH: usize = 15;
 const FENCED: usize = 16;
 const NEXT: usize = 17;
+const MOST_NUMBERS: usize = 18;
 
-pub fn numbers_of(record: &Record) -> Vec<u32> {
-    let mut numbers = vec![u32::from(record.length)];
-    numbers.extend(record.ids.map(u32::from));
-    numbers.push(record.wiring);
-    numbers.extend([record.session, record.highest, record.count, record.kind.into()].map(u32::from));
-    numbers.extend([record.named, record.fresh, record.fenced.into(), record.next].map(u32::from));
-    numbers
-}
-
+/// The numbers of a packet's fields.
 pub fn fields_of(packet: &Packet) -> Vec<u32> {
-    let mut fields: Vec<u32> = [packet.op, packet.answer].map(u32::from).to_vec();
-    fields.extend([packet.from, packet.to, packet.client].map(u32::from));
-    fields.extend([packet.request, packet.stamp, packet.version.session.into(), packet.version.sequence]);
-    fields.push(packet.value.len() as u32);
-    fields
+    let Packet { op, answer, from, to, client, request, stamp, version, value, .. } = *packet;
+    let Version { session, sequence } = version;
+    let length = value.len() as u8;
+    fields_numbers(&Fields { op, answer, from, to, client, request, stamp, session, sequence, length })
 }
 
 pub struct Maker {
@@ -83,6 +75,38 @@ impl Maker {
     pub fn case(&mut self) -> Case {
         let weights = CALLS.map(|(_, weight)| weight);
         let (call, _) = CALLS[self.dice.weighted(&weights)];
+        self.case_of(call)
+    }
+
+    /// What no struct of the header can hold, for each call that has numbers: every number too large for its member,
+    /// and every wrong length.
+    pub fn beyond_structs(&mut self) -> Vec<Case> {
+        let mut cases = vec![];
+        for (call, _) in CALLS {
+            for at in 0..MOST_NUMBERS {
+                for more in [256, 65_536, 1 << 31] {
+                    cases.push(self.renumbered(call, |numbers| {
+                        let number = numbers.get_mut(at)?;
+                        *number = number.wrapping_add(more);
+                        Some(())
+                    }));
+                }
+            }
+            for length in 0..=MOST_NUMBERS + 1 {
+                cases.push(self.renumbered(call, |numbers| (!numbers.is_empty()).then(|| numbers.resize(length, 0))));
+            }
+        }
+        cases.into_iter().flatten().collect()
+    }
+
+    /// A call with its numbers, those of a record or of fields, changed; none where it has no such numbers.
+    fn renumbered(&mut self, call: Call, change: impl FnOnce(&mut Vec<u32>) -> Option<()>) -> Option<Case> {
+        let mut case = self.case_of(call);
+        let Lent { record, fields, .. } = &mut case.lent;
+        change(if fields.is_empty() { record } else { fields }).map(|()| case)
+    }
+
+    fn case_of(&mut self, call: Call) -> Case {
         let mut case = Case { call, lent: Lent::default(), kind: 0, id: 0, fresh_id: 0, slot: 0, count: 0 };
         match call {
             Call::NodeStep => self.node_step(&mut case),
@@ -400,7 +424,7 @@ impl Maker {
 
     /// The record as numbers; those of a change that is not open are anything.
     fn numbers(&mut self, record: &Record) -> Vec<u32> {
-        let mut numbers = numbers_of(record);
+        let mut numbers = record_numbers(record);
         if record.kind == NO_CHANGE && self.dice.percent(30) {
             numbers[NAMED] = self.any();
             numbers[FRESH] = self.any();
@@ -448,7 +472,7 @@ impl Maker {
         let (kind, named) = self.dice.pick(&[(BEFORE, 1), (BEFORE, 8), (AFTER, 8)]);
         let (wiring, count) = (self.any(), self.count());
         let chain = Record { length: 8, ids, wiring, session: 1, highest: 9, count, ..Record::default() };
-        numbers_of(&Record { kind, named, fresh: 9, fenced: 1, next: count, ..chain })
+        record_numbers(&Record { kind, named, fresh: 9, fenced: 1, next: count, ..chain })
     }
 
     /// The record as numbers, damaged now and then.
@@ -539,7 +563,7 @@ impl Maker {
             case.lent.ids[at] = self.dice.pick(&[0, case.lent.ids[0]]);
         }
         let before = self.record(50);
-        case.lent.record = numbers_of(&before);
+        case.lent.record = record_numbers(&before);
         if self.dice.percent(8) {
             let length = self.dice.pick(&[0, 17, 19]);
             case.lent.record.resize(length, 0);

@@ -301,8 +301,10 @@ pub fn blank(table: &mut [u8], id: u16, count: u16) -> u8 {
 
 // ---- Chain record ----
 
-/// The record as numbers. With no change open the last four are ignored coming in and 0 going out.
+/// The record as numbers, laid out as the header's struct. With no change open the last four are ignored coming in and
+/// 0 going out.
 #[derive(Clone, Copy, Debug, Default, PartialEq, Eq)]
+#[repr(C)]
 pub struct Record {
     pub length: u8,
     pub ids: [u16; PLACES],

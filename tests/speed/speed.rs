@@ -13,8 +13,8 @@ use std::slice::{from_raw_parts, from_raw_parts_mut};
 use std::time::Instant;
 use twin::{FRONT, HEAD, KEY, MOST_VALUE, NUMBERS, OUTLET, SLOT};
 
-const ROUNDS: usize = 41;
-const KEYS: usize = 100_000;
+const ROUNDS: usize = 401;
+const KEYS: usize = 10_000;
 
 // ---- The two sides ----
 
