@@ -9,5 +9,6 @@ pub mod Members
 pub mod Trace
 pub mod Main
 pub mod Facts
+pub mod Slots
 pub mod Live
 pub mod Examples

@@ -6,7 +6,7 @@ use mathlib.Core.Logic.{_⊎_, inl, inr}
 use native.Mathlib.Omega.{arith}
 use Rattle.wire.specs.Numbers.{Out, refuse, ok, numberOf, left}
 use Rattle.wire.specs.Packet.{sentIn}
-use Rattle.wire.proofs.Numbers.{reflects-cases}
+use Rattle.wire.proofs.Numbers.{left-refused, reflects-cases}
 use Rattle.steps.specs.declared.Chain.{Chain}
 use Rattle.steps.specs.declared.Outcome.{Outcome}
 use Rattle.steps.specs.Relay.{Way, node, client, relayCall, packetSent, outcomeOf}
@@ -23,8 +23,7 @@ pub once : {A S : Type 0} {code : Out A → ℕ} {make : A → S} {o : Out A} {m
 once g h = (g .number ∙ sym (h .number), g .lent ∙ sym (h .lent))
 
 pub untouched : {A S : Type 0} {make : A → S} {n : ℕ} {s s′ : S} (o : Out A) → Leaves numberOf make o n s s′ → (n ≡ 0 → ⊥) → s′ ≡ s
-untouched (refuse m) g h = g .lent
-untouched (ok a) g h = absurd (h (g .number))
+untouched {A} {S} {make} {n} {s} o g h = g .lent ∙ left-refused o s make (g .number) h
 
 -- ---- the relay step
 

@@ -9,11 +9,12 @@ use lib.ListN.{length}
 use lib.Dec.{ltb, eqb}
 use borrow.Author.Tests.{eqb-true, eq-eqb, ne-eqb, ltb-false, not-false}
 use Rattle.wire.specs.Numbers.{Out, refuse, ok, guard, numberOf, left, broken, smallOutlet, malformed}
-use Rattle.wire.specs.Packet.{Packet, packet, packetOk, headOk, outletSize, readCall, readingOf, writeCall, writingOf, writingNumber, sentIn, WriteGives}
+use Rattle.wire.specs.Packet.{packet, packetOk, headOk, outletSize, readCall, readingOf, writeCall, writingNumber, sentIn, WriteGives}
 use Rattle.wire.specs.declared.Head.{Head}
 use Rattle.wire.specs.declared.Reading.the-variants.{Fields, Unread}
 use Rattle.wire.specs.declared.Writing.{Writing}
 use Rattle.wire.proofs.Numbers.{pick-true, ok-inj, past, stop-guard, pass-guard, or-left, or-false, reflects-yes, reflects-no, reflects-cases}
+use Rattle.wire.proofs.Packet.{writing-number}
 use Rattle.store.specs.Table.{tableOk, fenceBytes}
 use Rattle.steps.specs.declared.Chain.{Chain}
 use Rattle.steps.specs.declared.Ruling.{Ruling}
@@ -152,10 +153,6 @@ module _ (p f : List ℕ) where
 
     pub read-refused : {n : ℕ} → readingOf (readCall p) ≡ Unread n → ReadLeaves p f n f
     read-refused {n} e = refused (roomy ∙ reading-refused (readCall p) n e)
-
-writing-number : (o : Out Packet) → writingNumber (writingOf o) ≡ numberOf o
-writing-number (refuse n) = refl
-writing-number (ok p) = refl
 
 no-packet : (key value : List ℕ) → not (packetOk (packet noHead key value)) ≡ true
 unfolding packetOk headOk

@@ -148,12 +148,6 @@ unfoldable pub ins : Bool → ℕ → ℕ → List ℕ → List ℕ
 ins after named fresh [] = []
 ins after named fresh (x ∷ l) = pick (eqb x named) (pick after (x ∷ (fresh ∷ l)) (fresh ∷ (x ∷ l))) (x ∷ ins after named fresh l)
 
-abbrev pub insBefore : ℕ → ℕ → List ℕ → List ℕ
-insBefore named fresh l = ins false named fresh l
-
-abbrev pub insAfter : ℕ → ℕ → List ℕ → List ℕ
-insAfter named fresh l = ins true named fresh l
-
 pub mem-ins : {j : ℕ} (after : Bool) (named fresh : ℕ) (l : List ℕ) → Mem j (ins after named fresh l) → ((j ≡ fresh) × Mem named l) ⊎ Mem j l
 unfolding ins pick
 mem-ins after named fresh [] m = inr m

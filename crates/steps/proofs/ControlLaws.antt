@@ -9,11 +9,11 @@ use lib.ListN.{length, take, drop}
 use borrow.Author.Tests.{le-ltb, eq-eqb}
 use Rattle.be.specs.Be.{be, digits, put}
 use Rattle.be.proofs.Laws.{be-digits, put-back, take-start, drop-start, take-before}
-use Rattle.wire.specs.Numbers.{Out, refuse, ok, numberOf, left}
+use Rattle.wire.specs.Numbers.{Out, ok}
 use Rattle.wire.specs.Packet.{keySize}
 use Rattle.wire.specs.Version.{topStamp}
 use Rattle.wire.specs.declared.Stamp.{Stamp}
-use Rattle.wire.proofs.Numbers.{pass-all, pass-guard, reflects-yes}
+use Rattle.wire.proofs.Numbers.{left-refused, pass-all, pass-guard, reflects-yes}
 use Rattle.store.specs.Table.{tableOf, isFreeSlot, Write, TableRules, countOf, enteredSlot, headSize, rowAt, row, rowOf, writeBytes, writeTable, fenceBytes, fenceTable}
 use Rattle.store.proofs.Find.{FirstAt, free-at}
 use Rattle.store.proofs.Slot.{length-rowOf}
@@ -167,10 +167,6 @@ enters-one r t id key w h e =
     })
 
 -- ---- a refusal leaves everything as it was
-
-left-refused : {A B : Type 0} {n : ℕ} (o : Out A) (b : B) (f : A → B) → n ≡ numberOf o → (n ≡ 0 → ⊥) → left b f o ≡ b
-left-refused (refuse n) b f e h = refl
-left-refused (ok a) b f e h = absurd (h e)
 
 pub chain-refused : {r : Chain} {o : Out Chain} {n : ℕ} {r′ : Chain} → ChainGives r o n r′ → (n ≡ 0 → ⊥) → r′ ≡ r
 chain-refused {r} {o} g h = g .chain ∙ left-refused o r (λ c. c) (g .number) h

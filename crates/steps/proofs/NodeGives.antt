@@ -12,7 +12,7 @@ use Rattle.be.specs.Be.{Bytes}
 use Rattle.be.proofs.Laws.{length-put, getD-before, getD-after}
 use Rattle.wire.specs.Numbers.{Out, refuse, ok, numberOf, left, Case, First, Applies, Judged, priority}
 use Rattle.wire.specs.Packet.{packetOf, sentIn}
-use Rattle.wire.proofs.Numbers.{and-left, and-right}
+use Rattle.wire.proofs.Numbers.{left-refused, and-left, and-right}
 use Rattle.store.specs.Table.{tableOf, rowOf, rowAt, rowSize, countOf, Write, writeBytes}
 use Rattle.store.proofs.Slot.{length-rowOf}
 use Rattle.store.proofs.Rules.{length-table}
@@ -45,12 +45,11 @@ module _ {t p out : List ℕ} where
   module _ {n : ℕ} {t′ out′ : List ℕ} (g : NodeGives t p out n t′ out′) where
     -- a refusal leaves the table and the outlet as they were
     pub node-refused : (n ≡ 0 → ⊥) → (t′ ≡ t) × (out′ ≡ out)
-    node-refused h = go (nodeCall t p out) (g .number) (g .table) (g .outlet)
-      where
-        go : (o : Out Sent) → _≡_ {A = ℕ} n (numberOf o) → _≡_ {A = List ℕ} t′ (left t (λ s. writeBytes (s .write) t) o)
-            → _≡_ {A = List ℕ} out′ (left out (λ s. sentIn out (s .packet)) o) → (t′ ≡ t) × (out′ ≡ out)
-        go (refuse m) e a b = (a, b)
-        go (ok x) e a b = absurd (h e)
+    node-refused h =
+        let o = nodeCall t p out in (
+          g .table ∙ left-refused o t (λ s. writeBytes (s .write) t) (g .number) h,
+          g .outlet ∙ left-refused o out (λ s. sentIn out (s .packet)) (g .number) h,
+        )
 
     -- number 0: the step is done, its slot is in the table and its packet in the outlet
     pub node-done : n ≡ 0 → (x : Sent) × (nodeCall t p out ≡ ok x) × (t′ ≡ writeBytes (x .write) t) × (out′ ≡ sentIn out (x .packet))

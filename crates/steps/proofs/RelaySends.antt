@@ -7,7 +7,7 @@ use native.Mathlib.Omega.{arith}
 use lib.ListN.{length}
 use Rattle.be.specs.Be.{Bytes}
 use Rattle.be.proofs.Laws.{bytes-nil}
-use Rattle.wire.specs.Numbers.{Out, refuse, ok, left}
+use Rattle.wire.specs.Numbers.{Out, refuse, ok, numberOf, left}
 use Rattle.wire.specs.Version.{sequence}
 use Rattle.wire.specs.Packet.{Packet, packetOf, sentIn, Shape, read as isRead, write as isWrite, delete as isDelete, value as isValue, neverWritten as isNever, deleted as isDeleted, noKey as isNoKey, written as isWritten, valueSize, opWrite, opDelete, query, answerWritten}
 use Rattle.wire.specs.declared.Version.{Version}
@@ -16,7 +16,7 @@ use Rattle.steps.specs.declared.Outcome.{Outcome}
 use Rattle.steps.specs.declared.Outcome.the-variants.{ToNode, ToClient, Dropped}
 use Rattle.steps.specs.Chain.{members, firstOf, lastOf, nextOf, ChainRules}
 use Rattle.steps.specs.Node.{Numbered}
-use Rattle.steps.specs.Relay.{Way, node, client, toNode, toClient, packetSent, outcomeOf, relayStep, relayCall, RelayGives}
+use Rattle.steps.specs.Relay.{Way, node, client, toNode, toClient, packetSent, outcomeOf, outcomeNumber, relayStep, relayCall, RelayGives}
 use Rattle.steps.proofs.ChainIds.{first-mem, last-mem}
 use Rattle.steps.proofs.ChainOrder.{next-mem}
 use Rattle.steps.proofs.Relay.{some, relay-called}
@@ -142,6 +142,11 @@ relay-leaves r p out w b hw hs hh e =
 
 -- ---- the outcome
 
+outcome-number : (o : Out Way) → outcomeNumber (outcomeOf o) ≡ numberOf o
+outcome-number (refuse n) = refl
+outcome-number (ok (node j p)) = refl
+outcome-number (ok (client p)) = refl
+
 dropped-inj : {m n : ℕ} → Dropped m ≡ Dropped n → m ≡ n
 dropped-inj e = cc
 
@@ -149,6 +154,10 @@ module _ {r : Chain} {p out : List ℕ} where
   -- no second outcome fits
   pub relay-once : {o₁ o₂ : Outcome} {out₁ out₂ : List ℕ} → RelayGives r p out o₁ out₁ → RelayGives r p out o₂ out₂ → (o₁ ≡ o₂) × (out₁ ≡ out₂)
   relay-once g h = (g .outcome ∙ sym (h .outcome), g .outlet ∙ sym (h .outlet))
+
+  -- document 01's number of the outcome is the number of the answer
+  pub relay-number : {o : Outcome} {out′ : List ℕ} → RelayGives r p out o out′ → outcomeNumber o ≡ numberOf (relayCall r p out)
+  relay-number g = ap outcomeNumber (g .outcome) ∙ outcome-number (relayCall r p out)
 
   -- a packet that is dropped leaves the outlet as it was
   pub relay-dropped : {n : ℕ} {out′ : List ℕ} → RelayGives r p out (Dropped n) out′ → (relayCall r p out ≡ refuse n) × (out′ ≡ out)

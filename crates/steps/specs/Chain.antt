@@ -1,14 +1,13 @@
 -- Document 01, "Chain record": the eight places, the state of change, and all rules of a record.
-use Prim.Native.Nat.{ℕ, zero, suc, _+_, _-_, _<_, _≤_}
+use Prim.Native.Nat.{ℕ, suc, _+_, _-_, _<_, _≤_}
 use mathlib.Core.Path.{_≡_}
 use mathlib.Core.List.{List, [], _∷_, _++_, List·Memᴰ as Mem}
 use mathlib.Core.Bool.{Bool, true, false, _&&_, _||_, not}
-use lib.ListN.{length, getD, take, drop, replicate}
+use lib.ListN.{length, take, drop}
 use lib.Dec.{ltb, leb, eqb}
-use Rattle.wire.specs.Numbers.{Out, refuse, ok, judge, test, Case, case, broken, pick}
+use Rattle.wire.specs.Numbers.{Out, ok, judge, test, Case, case, broken, pick}
 use Rattle.wire.specs.Version.{session, stamp}
 use Rattle.wire.specs.declared.Session.{Session}
-use Rattle.wire.specs.declared.Stamp.{Stamp}
 use Rattle.store.specs.Table.{allZero, Zero, mostSlots}
 use Rattle.steps.specs.declared.Joining.{Joining}
 use Rattle.steps.specs.declared.Change.{Change}
@@ -82,11 +81,6 @@ abbrev pub whenOpen : Change → (Joining → Bool) → Bool
 whenOpen Still f = false
 whenOpen (Before j) f = f j
 whenOpen (After j) f = f j
-
-abbrev pub isAfter : Change → Bool
-isAfter Still = false
-isAfter (Before j) = false
-isAfter (After j) = true
 
 -- the open change
 pub data Opened : Change → Joining → Type 0 where

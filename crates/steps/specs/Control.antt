@@ -7,17 +7,16 @@ use mathlib.Core.Logic.{_⊎_}
 use lib.ListN.{length, getD}
 use lib.Dec.{ltb, leb, eqb}
 use Rattle.be.specs.Be.{put}
-use Rattle.wire.specs.Numbers.{Out, refuse, ok, numberOf, left, judge, test, Test, Case, case, under, pick, broken, noNumberLeft, changeOpen, outOfTurn, notMeant, idUsed, chainFull, onlyNode, otherCount, keyThere, noFreeSlot, fenceAbove}
+use Rattle.wire.specs.Numbers.{Out, ok, numberOf, left, judge, test, Test, Case, case, under, pick, broken, noNumberLeft, changeOpen, outOfTurn, notMeant, idUsed, chainFull, onlyNode, otherCount, keyThere, noFreeSlot, fenceAbove}
 use Rattle.wire.specs.Version.{lastStamp, nextStamp, lastSession, nextSession, topStamp, topSession, lessStamp}
-use Rattle.wire.specs.declared.Session.{Session}
-use Rattle.store.specs.Table.{Slot, Table, tableOf, tableOk, TableRules, find, lowestFree, enteredSlot, freeSlot, free, Write, keep, setRow, writeBytes, fenceBytes, fenceTable, row, rowAt}
+use Rattle.store.specs.Table.{Table, tableOf, tableOk, TableRules, find, lowestFree, enteredSlot, freeSlot, free, Write, keep, setRow, writeBytes, fenceBytes, row, rowAt}
 use Rattle.store.specs.declared.Found.{Found}
 use Rattle.store.specs.declared.Found.the-variants.{At, Nothing}
 use Rattle.steps.specs.declared.Joining.{Joining}
 use Rattle.steps.specs.declared.Change.{Change}
 use Rattle.steps.specs.declared.Change.the-variants.{Still, Before, After}
 use Rattle.steps.specs.declared.Chain.{Chain}
-use Rattle.steps.specs.Chain.{mostNodes, members, memb, firstOf, lastOf, placeOf, First, Last, insertAt, removeAt, isOpen, whenOpen, isAfter, Opened, joining, chainOk, ChainRules, withChange, withMembers}
+use Rattle.steps.specs.Chain.{mostNodes, members, memb, firstOf, lastOf, placeOf, First, Last, insertAt, removeAt, isOpen, whenOpen, Opened, joining, chainOk, ChainRules, withChange, withMembers}
 use Rattle.steps.specs.Node.{Missing, isNothing}
 
 -- a record, and a row that no rule of a record hides

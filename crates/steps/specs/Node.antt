@@ -1,18 +1,17 @@
 -- Document 01, "Node step": what a node does with a packet, and under which numbers it refuses.
-use Prim.Native.Nat.{ℕ, _+_, _<_, _≤_}
+use Prim.Native.Nat.{ℕ, _+_, _<_}
 use mathlib.Core.Path.{_≡_}
 use mathlib.Core.List.{List, [], _∷_}
 use mathlib.Core.Bool.{Bool, true, false, _&&_, _||_, not}
 use mathlib.Core.Logic.{_⊎_}
 use lib.ListN.{length, getD}
-use lib.Dec.{ltb, leb, eqb}
-use Rattle.wire.specs.Numbers.{Out, refuse, ok, numberOf, left, judge, test, Test, Case, case, under, pick, broken, smallOutlet, malformed, misaddressed, belowFence, sessionless, keyMissing, sessionOver, noNumberLeft, notNewer}
+use lib.Dec.{ltb, eqb}
+use Rattle.wire.specs.Numbers.{Out, ok, numberOf, left, judge, test, Test, Case, case, under, pick, broken, smallOutlet, malformed, misaddressed, belowFence, sessionless, keyMissing, sessionOver, noNumberLeft, notNewer}
 use Rattle.wire.specs.Version.{session, sequence, version, zeroVersion, lessSession, sameSession, lastSequence, nextSequence, topSequence, lessStamp, newer, Below}
 use Rattle.wire.specs.Packet.{Packet, packet, packetOf, sentIn, wellFormed, Formed, outletSize, opRead, opWrite, query, answerValue, answerNoValue, answerNoKey}
 use Rattle.wire.specs.declared.Version.{Version}
-use Rattle.wire.specs.declared.Head.{Head}
 use Rattle.store.specs.Table.{Slot, slot, Table, tableOf, tableOk, TableRules, find, freeSlot, free, valued, deleted, Write, keep, setRow, writeBytes}
-use Rattle.store.specs.Held.{Held, missing, holds, held}
+use Rattle.store.specs.Held.{missing, holds}
 use Rattle.store.specs.declared.Found.{Found}
 use Rattle.store.specs.declared.Found.the-variants.{At, Nothing}
 

@@ -1,8 +1,8 @@
 -- Document 01, "Relay step": where a packet is sent, and under which numbers it is dropped.
-use Prim.Native.Nat.{ℕ, _+_, _<_, _≤_}
+use Prim.Native.Nat.{ℕ, _<_}
 use mathlib.Core.Path.{_≡_}
 use mathlib.Core.List.{List, [], _∷_, List·Memᴰ as Mem}
-use mathlib.Core.Bool.{Bool, true, false, _&&_, _||_, not}
+use mathlib.Core.Bool.{Bool, false, _&&_, _||_, not}
 use mathlib.Core.Logic.{_⊎_}
 use lib.ListN.{length}
 use lib.Dec.{ltb, eqb}
@@ -10,7 +10,6 @@ use Rattle.wire.specs.Numbers.{Out, refuse, ok, left, judge, test, Test, Case, 
 use Rattle.wire.specs.Version.{sequence, stamp, isZero, zeroVersion}
 use Rattle.wire.specs.Packet.{Packet, packet, packetOf, sentIn, wellFormed, Formed, outletSize, opRead, query, answerWritten}
 use Rattle.wire.specs.declared.Version.{Version}
-use Rattle.wire.specs.declared.Session.{Session}
 use Rattle.steps.specs.declared.Change.{Change}
 use Rattle.steps.specs.declared.Change.the-variants.{Still, Before, After}
 use Rattle.steps.specs.declared.Chain.{Chain}
@@ -18,7 +17,7 @@ use Rattle.steps.specs.declared.Joining.{Joining}
 use Rattle.steps.specs.declared.Outcome.{Outcome}
 use Rattle.steps.specs.declared.Outcome.the-variants.{ToNode, ToClient, Dropped}
 use Rattle.steps.specs.Chain.{members, memb, firstOf, lastOf, nextOf, First, Last, Follows, Opened, chainOk, ChainRules}
-use Rattle.steps.specs.Node.{isRead, isUnnumbered, Alters, Numbered, Unnumbered}
+use Rattle.steps.specs.Node.{isRead, isUnnumbered, Alters, Unnumbered}
 
 -- ---- where a packet goes
 

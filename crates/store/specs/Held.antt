@@ -1,7 +1,6 @@
 -- What a table holds of one key: its version and its content.
 use Prim.Native.Nat.{ℕ}
 use mathlib.Core.List.{List, [], _∷_}
-use mathlib.Core.Bool.{Bool, true, false}
 use lib.Dec.{eqb}
 use Rattle.wire.specs.Numbers.{pick}
 use Rattle.wire.specs.Version.{zeroVersion}

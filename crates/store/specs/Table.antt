@@ -7,7 +7,7 @@ use mathlib.Core.Logic.{_⊎_}
 use lib.ListN.{length, getD, take, drop, set, replicate}
 use lib.Dec.{ltb, leb, eqb}
 use Rattle.be.specs.Be.{be, digits, put}
-use Rattle.wire.specs.Numbers.{Out, refuse, ok, numberOf, left, judge, test, Case, case, broken, pick}
+use Rattle.wire.specs.Numbers.{Out, ok, numberOf, left, judge, test, Case, case, broken, pick}
 use Rattle.wire.specs.Version.{version, stamp, isZero, isGiven, zeroVersion}
 use Rattle.wire.specs.Packet.{keySize, valueSize}
 use Rattle.wire.specs.declared.Version.{Version}

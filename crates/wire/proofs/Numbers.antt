@@ -7,7 +7,7 @@ use mathlib.Core.List.{List, [], _∷_, _++_, List·Memᴰ as Mem, List·Memᴰ�
 use native.Mathlib.Omega.{arith}
 use lib.Dec.{ltb, leb, eqb}
 use borrow.Author.Tests.{ltb-true, ltb-false, leb-true, leb-false, eqb-true, eqb-false, not-true, not-false}
-use Rattle.wire.specs.Numbers.{Out, refuse, ok, pick, guard, Test, judge, Case, under, Applies, First, Judged, priority, numberOf}
+use Rattle.wire.specs.Numbers.{Out, refuse, ok, pick, guard, Test, judge, Case, under, Applies, First, Judged, priority, numberOf, left}
 
 -- ---- if-then-else
 
@@ -108,10 +108,6 @@ pub or-left : (a b : Bool) → a ≡ true → (a || b) ≡ true
 or-left true b e = refl
 or-left false b e = absurd (false≢true e)
 
-pub or-right : (a b : Bool) → b ≡ true → (a || b) ≡ true
-or-right true b e = refl
-or-right false b e = e
-
 -- ---- a test that reflects a fact: it is true where the fact holds, and false where it does not
 
 abbrev pub Reflects : Bool → Type 0 → Type 0
@@ -211,6 +207,11 @@ judged-once cs (refuse m) (refuse n) g h = first-once (Applies cs) priority m n 
 judged-once cs (refuse m) (ok b) g h = absurd (h m (first-holds (Applies cs) priority m g))
 judged-once cs (ok a) (refuse n) g h = absurd (g n (first-holds (Applies cs) priority n h))
 judged-once cs (ok a) (ok b) g h = refl
+
+-- a refusal leaves what was lent as it was
+pub left-refused : {A B : Type 0} {n : ℕ} (o : Out A) (b : B) (f : A → B) → n ≡ numberOf o → (n ≡ 0 → ⊥) → left b f o ≡ b
+left-refused (refuse n) b f e h = refl
+left-refused (ok a) b f e h = absurd (h e)
 
 -- ---- a ladder of tests and the rows that it stands for
 

@@ -8,9 +8,9 @@ use native.Mathlib.Omega.{arith}
 use lib.ListN.{length, getD}
 use lib.Dec.{ltb}
 use borrow.Author.Tests.{ltb-false, lt-ltb, le-ltb, not-false}
-use Rattle.wire.specs.Numbers.{ok, refuse, Judged, test, smallOutlet, malformed}
+use Rattle.wire.specs.Numbers.{Out, ok, refuse, numberOf, Judged, test, smallOutlet, malformed}
 use Rattle.wire.specs.Version.{isZero, isGiven, isOrderly, zeroVersion}
-use Rattle.wire.specs.Packet.{Packet, frontSize, valueSize, lengthAt, zeroAt, outletSize, opRead, opWrite, opDelete, query, answerValue, answerNoValue, answerNoKey, answerWritten, headOf, shapeOk, headOk, wellFormed, packetOk, Shape, read, write, delete, value, neverWritten, deleted, noKey, written, Formed, Fit, readCall, readRows, writeCall, writeRows, keyOf, valueOf, keyPart, valuePart}
+use Rattle.wire.specs.Packet.{Packet, frontSize, valueSize, lengthAt, zeroAt, outletSize, opRead, opWrite, opDelete, query, answerValue, answerNoValue, answerNoKey, answerWritten, headOf, shapeOk, headOk, wellFormed, packetOk, Shape, read, write, delete, value, neverWritten, deleted, noKey, written, Formed, Fit, readCall, readRows, readingOf, readingNumber, writeCall, writeRows, writingOf, writingNumber, keyOf, valueOf, keyPart, valuePart}
 use Rattle.wire.specs.declared.Version.{Version}
 use Rattle.wire.specs.declared.Head.{Head}
 use Rattle.wire.proofs.Numbers.{Reflects, reflect-eqb, reflect-ltb, reflect-leb, reflect-not, reflect-and, reflect-or, reflect-iff, reflects-cases, reflects-yes, reflects-no, judged, past, pass-guard, stop-guard, ok-inj, pick-true, pick-false}
@@ -172,6 +172,15 @@ write-small out p h = stop-guard _ _ _ (lt-ltb _ _ h)
 pub write-refused : (out : List ℕ) (p : Packet) → outletSize ≤ length out → (Fit p → ⊥) → writeCall out p ≡ refuse malformed
 unfolding writeCall
 write-refused out p h n = pass-guard _ _ _ (le-ltb _ _ h) ∙ stop-guard _ _ _ (reflects-yes (reflect-not (reflect-fit p)) n)
+
+-- document 01's number of each case is the number of the answer
+pub reading-number : (o : Out Head) → readingNumber (readingOf o) ≡ numberOf o
+reading-number (refuse n) = refl
+reading-number (ok h) = refl
+
+pub writing-number : (o : Out Packet) → writingNumber (writingOf o) ≡ numberOf o
+writing-number (refuse n) = refl
+writing-number (ok p) = refl
 
 -- the parts of a packet, and of what is none
 pub key-part : (p : List ℕ) → Formed p → keyPart p ≡ keyOf p

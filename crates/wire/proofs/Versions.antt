@@ -1,5 +1,5 @@
 -- Laws of versions: their order, one more of each kind of number, and versions as single numbers.
-use Prim.Native.Nat.{ℕ, _+_, _*_, _<_, _≤_}
+use Prim.Native.Nat.{ℕ, _+_, _<_, _≤_}
 use mathlib.Core.Path.{_≡_, refl, sym, subst}
 use mathlib.Core.Bool.{true, false}
 use mathlib.Core.Logic.{_⊎_, inl, inr, _↔_}
@@ -7,13 +7,13 @@ use mathlib.Core.List.{[], _∷_}
 use native.Mathlib.Omega.{arith}
 use lib.Dec.{eqb}
 use borrow.Author.Tests.{eqb-false}
-use Rattle.wire.specs.Version.{version, session, sequence, stamp, topSession, topSequence, topStamp, lastSession, lastSequence, lastStamp, nextSession, nextSequence, nextStamp, newer, Below, AtMost}
+use Rattle.wire.specs.Version.{version, session, sequence, stamp, topSession, topStamp, lastSession, lastSequence, lastStamp, nextSession, nextSequence, nextStamp, newer, Below, AtMost}
 use Rattle.wire.specs.Numbers.{pick}
 use Rattle.wire.specs.declared.Session.{Session}
 use Rattle.wire.specs.declared.Sequence.{Sequence}
 use Rattle.wire.specs.declared.Stamp.{Stamp}
 use Rattle.wire.specs.declared.Version.{Version}
-use Rattle.wire.proofs.Numbers.{pick-false, pick-case, Reflects, reflects-yes, reflects-no, reflects-cases, reflect-eqb, reflect-ltb, reflect-and, reflect-or}
+use Rattle.wire.proofs.Numbers.{pick-false, pick-case, Reflects, reflects-cases, reflect-eqb, reflect-ltb, reflect-and, reflect-or}
 
 -- ---- the order
 
@@ -117,13 +117,6 @@ pub reflect-newer : (a b : Version) → Reflects (newer a b) (Below b a)
 unfolding newer
 reflect-newer a b = reflect-or (reflect-ltb _ _) (reflect-and (reflect-eqb _ _) (reflect-ltb _ _))
 
-pub newer-below : (a b : Version) → (newer a b ≡ true) ↔ Below b a
-newer-below a b = (reflect-newer a b .0, reflects-yes (reflect-newer a b))
-
-pub newer-atmost : (a b : Version) → (newer a b ≡ false) ↔ AtMost a b
-newer-atmost a b =
-    (λ e. not-below b a .0 (reflect-newer a b .1 e), λ h. reflects-no (reflect-newer a b) (atmost-not-below b a h))
-
 -- document 01's examples 4, 5 and 6: 2.1 over 1.9, 1.9 over 2.1, 1.5 over 1.5
 pub newer-examples : newer (version 2 1) (version 1 9) ∷ newer (version 1 9) (version 2 1) ∷ newer (version 1 5) (version 1 5) ∷ []
     ≡ true ∷ false ∷ false ∷ []
@@ -154,10 +147,6 @@ pub next-session-within : (s : Session) → s .0 ≤ topSession → (s .0 ≤ ne
 unfolding nextSession
 next-session-within s h = next-within (λ (k : Session). k .0) topSession s (session (s .0 + 1)) h refl
 
-pub next-sequence-within : (q : Sequence) → q .0 ≤ topSequence → (q .0 ≤ nextSequence q .0) × (nextSequence q .0 ≤ topSequence)
-unfolding nextSequence
-next-sequence-within q h = next-within (λ (k : Sequence). k .0) topSequence q (sequence (q .0 + 1)) h refl
-
 pub next-stamp-within : (n : Stamp) → n .0 ≤ topStamp → (n .0 ≤ nextStamp n .0) × (nextStamp n .0 ≤ topStamp)
 unfolding nextStamp
 next-stamp-within n h = next-within (λ (k : Stamp). k .0) topStamp n (stamp (n .0 + 1)) h refl
@@ -165,28 +154,3 @@ next-stamp-within n h = next-within (λ (k : Stamp). k .0) topStamp n (stamp (n 
 -- the next sequence makes a version above
 pub next-above : (v : Version) → lastSequence (v .sequence) ≡ false → Below v (record { session = v .session; sequence = nextSequence (v .sequence) })
 next-above v e = inr (refl, rw (next-sequence (v .sequence) e) (omega arith))
-
--- ---- a version as one number, whose order omega decides
-
-abbrev pub enc : Version → ℕ
-enc v = v .session .0 * (topSequence + 1) + v .sequence .0
-
-pub below-enc : (a b : Version) → a .sequence .0 ≤ topSequence → b .sequence .0 ≤ topSequence → Below a b ↔ (enc a < enc b)
-below-enc a b ha hb = (to, from (reflects-cases (reflect-ltb (a .session .0) (b .session .0))))
-  where
-    to : Below a b → enc a < enc b
-    to (inl h) = omega arith
-    to (inr h) = omega arith
-
-    from : ((a .session .0 < b .session .0) ⊎ (a .session .0 < b .session .0 → ⊥)) → enc a < enc b → Below a b
-    from (inl l) h = inl l
-    from (inr n) h = inr (omega arith)
-
-pub atmost-enc : (a b : Version) → a .sequence .0 ≤ topSequence → b .sequence .0 ≤ topSequence → AtMost a b ↔ (enc a ≤ enc b)
-atmost-enc a b ha hb = (
-  λ h. let n : enc b < enc a → ⊥ = λ g. atmost-not-below b a h (below-enc b a hb ha .1 g) in omega arith,
-  λ h. not-below b a .0 (λ g. let l = below-enc b a hb ha .0 g in omega arith),
-)
-
-pub enc-injective : (a b : Version) → a .sequence .0 ≤ topSequence → b .sequence .0 ≤ topSequence → enc a ≡ enc b → a ≡ b
-enc-injective a b ha hb e = version-is a b (omega arith) (omega arith)
