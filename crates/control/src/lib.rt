@@ -21,6 +21,7 @@ use steps::Chain;
 use steps::Change;
 use steps::Joining;
 use steps::Ruling;
+use store::ENTERED;
 use store::Found;
 use wire::BROKEN;
 use wire::CHANGE_OPEN;
@@ -204,8 +205,6 @@ pub fn copy(c: Chain, i: u16, named: &[u8], fresh: &mut [u8]) -> Ruling
 }
 
 // ---- enter
-
-const ENTERED: u8 = 1;
 
 fn is_nothing(f: Found) -> bool
     ensures { λ r. ⌜ r ≡ isNothing f ⌝ }

@@ -19,7 +19,7 @@ use Rattle.steps.specs.declared.Chain.{Chain}
 use Rattle.steps.specs.Chain.{mostNodes, members, memb, firstOf, lastOf, placeOf, First, Last, insertAt, removeAt, isOpen, whenOpen, Opened, joining, chainOk, ChainRules, withChange, withMembers}
 use Rattle.steps.specs.Node.{Missing, isNothing}
 
--- a record, and a row that no rule of a record hides
+-- a step on a record: 1 where it breaks the rules, and the step's own rows only where it keeps them
 abbrev pub onRecord : {A : Type 0} → Chain → Out A → Out A
 onRecord r y = judge (test broken (not (chainOk r)) ∷ []) y
 
