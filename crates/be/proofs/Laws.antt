@@ -2,15 +2,17 @@
 use Prim.Native.Nat.{ℕ, zero, suc, _+_, _*_, _/_, _%_, _^_, _-_, _<_, _≤_, suc-le-suc}
 use mathlib.Core.Path.{_≡_, refl, sym, ap, ap₂, _∙_}
 use mathlib.Core.List.{List, [], _∷_, _++_, append-assoc, append-nil}
-use native.Mathlib.Nat.{mod-one, div-one, mod-eq-of-lt, pow-suc, pow-succ', div-div-eq-div-mul, add-zero, add-suc, add-assoc, mul-assoc, le-of-suc-le-suc, zero-add, zero-lt-suc}
+use native.Mathlib.Nat.{mod-one, div-one, mod-eq-of-lt, pow-suc, pow-succ', div-div-eq-div-mul, add-zero, add-suc, add-assoc, mul-assoc, le-of-suc-le-suc, zero-add, zero-lt-suc, suc-add}
 use native.Mathlib.Omega.{arith}
 use native.Mathlib.Numerals.{add-one}
-use borrow.Author.Count.{below-none, below-more}
-use lib.ListN.{length, getD, take, drop, set, replicate, length-append, length-drop, length-replicate, getD-replicate, drop-of-length-le, take-append-drop, List·getD-append}
+use native.Mathlib.Decide.{ℕ-discrete}
+use borrow.Author.Tests.{eq-eqb, ne-eqb}
+use lib.ListN.{length, getD, take, drop, set, replicate, length-append, length-drop, drop-of-length-le, take-append-drop, List·getD-append}
 use lib.Arith.{digits-div, digits-mod, digits-lt, mod-mul}
-use lib.Dec.{lit<}
-use lib.Seq.{getD-append-add, take-suc, take-add, getD-take, getD-drop, getD-at, ext-getD, sets, sets-eq, length-sets, paste, paste-zero, paste-suc, take-length, take-at, drop-append-add, drop-drop, drop-at, drop-append-le, take-append-le, length-take-le}
-use Rattle.be.specs.Be.{be, digits, Bytes, put}
+use lib.Dec.{lit<, eqb}
+use lib.Pow.{pow-add}
+use lib.Seq.{getD-append-add, take-suc, take-add, getD-take, getD-drop, getD-at, sets, sets-eq, length-sets, paste, paste-zero, paste-suc, take-length, take-at, drop-append-add, drop-drop, drop-at, drop-append-le, take-append-le, length-take-le}
+use Rattle.be.specs.Be.{be, digits, lowFirst, swapped, Bytes, put}
 
 -- ---- a number and its bytes
 
@@ -60,18 +62,67 @@ be-join j (suc k) s at =
 pub be-injective : (k : ℕ) (s t : List ℕ) (at to : ℕ) → Bytes s → Bytes t → at + k ≤ length s → to + k ≤ length t → be k s at ≡ be k t to → take k (drop at s) ≡ take k (drop to t)
 be-injective k s t at to bs bt hs ht e = sym (digits-be k s at bs hs) ∙ ap (digits k) e ∙ digits-be k t to bt ht
 
--- the k low bytes of n are those of n modulo 256 ^ k
-pub digits-low : (k n : ℕ) → digits k (n % 256 ^ k) ≡ digits k n
-digits-low zero n = refl
-digits-low (suc k) n =
-    let low : n % 256 < 256 = omega arith in
-    rw (pow-suc 256 k, mod-mul n (pow-positive k) (lit< tt), digits-div, digits-mod, digits-low k (n / 256))
+-- ---- the bytes of a number in the other order
 
--- the bytes of a number by those of its two parts, j high ones and k low ones
-pub digits-join : (j k n : ℕ) → digits j (n / 256 ^ k) ++ digits k n ≡ digits (j + k) n
-digits-join j zero n = rw (div-one, add-zero) (append-nil (digits j n))
-digits-join j (suc k) n =
-    rw (add-suc j k, pow-succ' 256 k, ← div-div-eq-div-mul n 256 (256 ^ k), ← append-assoc, digits-join j k (n / 256))
+swapped-bound : (k n : ℕ) → swapped k n < 256 ^ k
+swapped-bound zero n = lit< tt
+swapped-bound (suc k) n =
+    let low : n % 256 < 256 = omega arith in
+    rw (pow-succ' 256 k) (digits-lt low (swapped-bound k (n / 256)))
+
+-- only the k low bytes count
+pub low-swapped : (k n : ℕ) → swapped k (n % 256 ^ k) ≡ swapped k n
+low-swapped zero n = refl
+low-swapped (suc k) n =
+    let low : n % 256 < 256 = omega arith in
+    rw (pow-suc 256 k, mod-mul n (pow-positive k) (lit< tt), digits-div, digits-mod, low-swapped k (n / 256))
+
+pub low-lowFirst : (k n : ℕ) → lowFirst k (n % 256 ^ k) ≡ lowFirst k n
+low-lowFirst zero n = refl
+low-lowFirst (suc k) n =
+    let low : n % 256 < 256 = omega arith in
+    rw (pow-suc 256 k, mod-mul n (pow-positive k) (lit< tt), digits-div, digits-mod, low-lowFirst k (n / 256))
+
+-- by two parts, j low bytes and k high ones
+pub swapped-join : (j k n : ℕ) → swapped j n * 256 ^ k + swapped k (n / 256 ^ j) ≡ swapped (j + k) n
+swapped-join zero k n = rw (div-one, zero-add) (omega arith)
+swapped-join (suc j) k n =
+    rw (suc-add j k, pow-succ' 256 j, ← div-div-eq-div-mul n 256 (256 ^ j), pow-add 256 j k, ← swapped-join j k (n / 256), ← mul-assoc (n % 256) (256 ^ j) (256 ^ k)) (omega arith)
+
+pub lowFirst-join : (j k n : ℕ) → lowFirst j n ++ lowFirst k (n / 256 ^ j) ≡ lowFirst (j + k) n
+lowFirst-join zero k n = rw (div-one, zero-add)
+lowFirst-join (suc j) k n =
+    rw (suc-add j k, pow-succ' 256 j, ← div-div-eq-div-mul n 256 (256 ^ j), ← lowFirst-join j k (n / 256))
+
+-- two parts of a list, read the lowest byte first, and the number of both
+pub be-halves : (k high low : ℕ) (s : List ℕ) (at : ℕ) → low < 256 ^ k → swapped k low ≡ be k s at → swapped k high ≡ be k s (at + k) → swapped (k + k) (high * 256 ^ k + low) ≡ be (k + k) s at
+be-halves k high low s at h l u =
+    let n = high * 256 ^ k + low in
+    sym (swapped-join k k n)
+    ∙ ap₂ (λ (a b : ℕ). a * 256 ^ k + b) (sym (low-swapped k n) ∙ ap (swapped k) (digits-mod high h) ∙ l) (ap (swapped k) (digits-div high h) ∙ u)
+    ∙ be-join k k s at
+
+-- a number in the other order, the lowest byte first, is the number, the highest byte first
+pub swapped-back : (k n : ℕ) → lowFirst k (swapped k n) ≡ digits k n
+swapped-back zero n = refl
+swapped-back (suc k) n =
+    let b = swapped-bound k (n / 256) in
+    let m = n % 256 * 256 ^ k + swapped k (n / 256) in
+    let front : lowFirst k m ≡ digits k (n / 256) =
+    sym (low-lowFirst k m) ∙ rw (digits-mod (n % 256) b) (swapped-back k (n / 256)) in
+    let last : lowFirst 1 (m / 256 ^ k) ≡ n % 256 ∷ [] = rw (digits-div (n % 256) b) (ap (λ (x : ℕ). x ∷ []) (omega arith)) in
+    ap (λ (j : ℕ). lowFirst j m) (sym (add-one k)) ∙ sym (lowFirst-join k 1 m) ∙ ap₂ _++_ front last
+
+-- numbers are the same if their bytes turned are
+pub swapped-same : (k a b : ℕ) → a < 256 ^ k → b < 256 ^ k → eqb a b ≡ eqb (swapped k a) (swapped k b)
+swapped-same k a b ha hb = go (ℕ-discrete a b)
+  where
+    whole : (n : ℕ) → n < 256 ^ k → be k (lowFirst k (swapped k n) ++ []) 0 ≡ n
+    whole n h = rw (swapped-back k n) (be-digits k n [] [] ∙ mod-eq-of-lt h)
+
+    go : Dec (a ≡ b) → eqb a b ≡ eqb (swapped k a) (swapped k b)
+    go (yes e) = eq-eqb a b e ∙ sym (eq-eqb _ _ (ap (swapped k) e))
+    go (no n) = ne-eqb a b n ∙ sym (ne-eqb _ _ (λ e. n (sym (whole a ha) ∙ ap (λ (m : ℕ). be k (lowFirst k m ++ []) 0) e ∙ whole b hb)))
 
 -- ---- k bytes alone say what they stand for
 
@@ -80,10 +131,6 @@ pub be-same : (k : ℕ) (s t : List ℕ) (at to : ℕ) → ((i : ℕ) → i < k 
 be-same zero s t at to h = refl
 be-same (suc k) s t at to h =
     ap₂ (λ (a b : ℕ). a * 256 + b) (be-same k s t at to (λ i l. h i (omega arith))) (h k (omega arith))
-
--- behind a front p
-pub be-append : (k : ℕ) (p q : List ℕ) (at : ℕ) → be k (p ++ q) (length p + at) ≡ be k q at
-be-append k p q at = be-same k (p ++ q) q (length p + at) at (λ i h. rw (add-assoc (length p) at i) (getD-append-add p q (at + i) 0))
 
 -- in a front
 pub be-take : (k m : ℕ) (l : List ℕ) (at : ℕ) → at + k ≤ m → be k (take m l) at ≡ be k l at
@@ -238,16 +285,6 @@ pub getD-before : (l vs : List ℕ) (a i : ℕ) → i < a → a ≤ length l →
 getD-before l vs a i h ha =
     sym (getD-take a (put l a vs) i 0 h) ∙ ap (λ (s : List ℕ). getD s i 0) (take-before l vs a a (omega arith) ha) ∙ getD-take a l i 0 h
 
--- an index in what was put
-pub getD-same : (l vs : List ℕ) (a i : ℕ) → a ≤ i → i < a + length vs → a ≤ length l → getD (put l a vs) i 0 ≡ getD vs (i - a) 0
-getD-same l vs a i h hi ha =
-    let j : i - a < length vs = omega arith in
-    let e : a + (i - a) ≡ i = omega arith in
-    sym (ap (λ (n : ℕ). getD (put l a vs) n 0) e)
-    ∙ sym (getD-drop a (put l a vs) (i - a) 0)
-    ∙ sym (getD-take (length vs) (drop a (put l a vs)) (i - a) 0 j)
-    ∙ ap (λ (s : List ℕ). getD s (i - a) 0) (cut-same l vs a (length vs) refl ha)
-
 -- an index behind what was put
 pub getD-after : (l vs : List ℕ) (a i : ℕ) → a + length vs ≤ i → a + length vs ≤ length l → getD (put l a vs) i 0 ≡ getD l i 0
 getD-after l vs a i h hl =
@@ -273,34 +310,29 @@ be-put k n l a b ha = be-at k n (take a l) (drop (a + length (digits k n)) l) a 
 pub be-after : (k : ℕ) (l vs : List ℕ) (a at : ℕ) → a + length vs ≤ at → a + length vs ≤ length l → be k (put l a vs) at ≡ be k l at
 be-after k l vs a at h hl = be-same k (put l a vs) l at at (λ i b. getD-after l vs a (at + i) (omega arith) hl)
 
--- ---- zeros
+-- ---- a list that is put in pieces
 
--- k zeros stand for 0
-pub be-zeros : (k : ℕ) (s : List ℕ) (at : ℕ) → ((i : ℕ) → i < k → getD s (at + i) 0 ≡ 0) → be k s at ≡ 0
-be-zeros zero s at h = refl
-be-zeros (suc k) s at h =
-    let e : be k s at ≡ 0 = be-zeros k s at (λ i b. h i (omega arith)) in
-    rw (e, h k (omega arith))
+-- what was put, put over by at least as much
+put-over : (l x y : List ℕ) (a : ℕ) → length x ≤ length y → a + length y ≤ length l → put (put l a x) a y ≡ put l a y
+unfolding put
+put-over l x y a h b = ap₂ (λ (p q : List ℕ). p ++ y ++ q) (take-before l x a a (omega arith) (omega arith)) (cut-after l x a (a + length y) (omega arith) (omega arith))
 
--- only zeros stand for 0
-pub zeros-be : (k : ℕ) (s : List ℕ) (at : ℕ) → be k s at ≡ 0 → (i : ℕ) → i < k → getD s (at + i) 0 ≡ 0
-zeros-be zero s at e = below-none (λ (i : ℕ). getD s (at + i) 0 ≡ 0)
-zeros-be (suc k) s at e =
-    rw (← add-one k) (below-more (λ (i : ℕ). getD s (at + i) 0 ≡ 0) k (zeros-be k s at (omega arith)) (omega arith))
-
--- a part that is k zeros stands for 0
-pub part-zeros : (k : ℕ) (s : List ℕ) (at : ℕ) → take k (drop at s) ≡ replicate k 0 → be k s at ≡ 0
-part-zeros k s at e =
-    be-zeros k s at (λ i h. sym (getD-drop at s i 0) ∙ sym (getD-take k (drop at s) i 0 h) ∙ ap (λ (l : List ℕ). getD l i 0) e ∙ getD-replicate {A = ℕ} k i 0 0 h)
-
--- a part that stands for 0 is zeros: one number tests all k
-pub zeros-part : (k : ℕ) (s : List ℕ) (at : ℕ) → at + k ≤ length s → be k s at ≡ 0 → take k (drop at s) ≡ replicate k 0
-zeros-part k s at h e =
-    let len : length (take k (drop at s)) ≡ k = length-take-le k (drop at s) (simp length-drop (omega arith)) in
-    ext-getD 0 (take k (drop at s)) (replicate k 0) (len ∙ sym (length-replicate {A = ℕ} k 0))
-    (λ i l.
-    let b : i < k = rw len at l in
-    getD-take k (drop at s) i 0 b ∙ getD-drop at s i 0 ∙ zeros-be k s at e i b ∙ sym (getD-replicate {A = ℕ} k i 0 0 b))
+-- i elements of s are put; k more from j on, some of which may be among them, make j + k
+pub put-piece : (d : List ℕ) (at : ℕ) (s l : List ℕ) (i j k : ℕ) → j ≤ i → i ≤ j + k → j + k ≤ length s → at + length s ≤ length d → l ≡ put d at (take i s) → put l (at + j) (take k (drop j s)) ≡ put d at (take (j + k) s)
+put-piece d at s l i j k hj hi hs hd e =
+    let x = take (i - j) (drop j s) in
+    let y = take k (drop j s) in
+    let front : length (take j s) ≡ j = length-take-le j s (omega arith) in
+    let few : length x ≡ i - j = length-take-le (i - j) (drop j s) (simp length-drop (omega arith)) in
+    let all : length y ≡ k = length-take-le k (drop j s) (simp length-drop (omega arith)) in
+    let start : at + length (take j s) ≡ at + j = rw front refl in
+    let m = put d at (take j s) in
+    let size : length m ≡ length d = length-put d at (take j s) (omega arith) in
+    let split : take i s ≡ take j s ++ x = ap (λ (n : ℕ). take n s) (let z : i ≡ j + (i - j) = omega arith in z) ∙ take-add j (i - j) s in
+    ap (λ (z : List ℕ). put z (at + j) y) (e ∙ ap (put d at) split ∙ sym (put-put d (take j s) x at (at + j) (omega arith) start))
+    ∙ put-over m x y (at + j) (omega arith) (omega arith)
+    ∙ put-put d (take j s) y at (at + j) (omega arith) start
+    ∙ ap (put d at) (sym (take-add j k s))
 
 -- ---- a loop that writes s from `at` on
 

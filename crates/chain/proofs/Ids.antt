@@ -1,5 +1,5 @@
 -- The ids of a chain by their places: what a search through the places finds.
-use Prim.Native.Nat.{ℕ, suc, _+_, _-_, _<_, _≤_, min}
+use Prim.Native.Nat.{ℕ, zero, suc, _+_, _-_, _<_, _≤_, min}
 use mathlib.Core.Path.{_≡_, refl, sym, ap, ap₂, _∙_}
 use mathlib.Core.Bool.{Bool, true, false, _&&_, _||_, not}
 use mathlib.Core.List.{List, [], _∷_}
@@ -10,12 +10,13 @@ use native.Mathlib.Decide.{decLt}
 use lib.ListN.{length, getD, take, drop, length-take, length-drop, drop-of-length-le}
 use lib.Seq.{drop-cons, getD-take, take-all}
 use lib.Dec.{ltb, leb, eqb}
-use borrow.Author.Tests.{lt-ltb, le-ltb, le-leb, lt-leb, leb-true, leb-false, eq-eqb, ne-eqb, ltb-true, ltb-false}
+use borrow.Author.Tests.{lt-ltb, le-ltb, le-leb, lt-leb, eq-eqb, ne-eqb}
 use Rattle.wire.specs.Numbers.{pick}
-use Rattle.wire.proofs.Numbers.{pick-true, pick-false, pick-case}
+use Rattle.wire.proofs.Numbers.{pick-true, pick-false}
 use Rattle.steps.proofs.ChainPlaces.{length-members}
 use Rattle.steps.proofs.ChainIds.{memb-true, memb-false, mem-place, place-mem}
 use Rattle.store.specs.Table.{allZero}
+use Rattle.chain.specs.Ids.{idsOk}
 use Rattle.steps.specs.Chain.{mostNodes, memb, firstOf, lastOf, nextOf, placeOf, apart, noneAbove, largest}
 
 -- the members are those of the places that are used
@@ -99,9 +100,17 @@ ltb-shift p k n h = go (decLt p (n - k))
     go (yes b) = lt-ltb p (n - k) b ∙ sym (lt-ltb (k + p) n (omega arith))
     go (no b) = le-ltb p (n - k) (omega arith) ∙ sym (le-ltb (k + p) n (omega arith))
 
+pub and-none : (b : Bool) → (b && false) ≡ false
+and-none true = refl
+and-none false = refl
+
 module _ (l : List ℕ) (n : ℕ) (eight : length l ≡ mostNodes) (h : n ≤ mostNodes) where
+  above-turn : (top i : ℕ) → i < n → noneAbove top (drop i (take n l)) ≡ (leb (getD l i 0) top && noneAbove top (drop (i + 1) (take n l)))
+  unfolding noneAbove
+  above-turn top i b = ap (noneAbove top) (rest l n eight h i b)
+
   -- an id that is not 0 and that a search behind it does not find, and the rest
-  pub apart-turn : (i r : ℕ) {t : Bool} → i < n → r ≡ i + 1 + placeOf (getD l i 0) (drop (i + 1) (take n l)) → (eqb (getD l i 0) 0 || ltb r n) ≡ t
+  apart-turn : (i r : ℕ) {t : Bool} → i < n → r ≡ i + 1 + placeOf (getD l i 0) (drop (i + 1) (take n l)) → (eqb (getD l i 0) 0 || ltb r n) ≡ t
       → apart (drop i (take n l)) ≡ (not t && apart (drop (i + 1) (take n l)))
   unfolding apart
   apart-turn i r b e f =
@@ -121,6 +130,29 @@ module _ (l : List ℕ) (n : ℕ) (eight : length l ≡ mostNodes) (h : n ≤ mo
       go true b e = refl
       go false b e = ap (λ (x : Bool). not x && apart behind) e
 
+  -- an id that passes both tests, and the rest
+  pub ids-turn : (top i r : ℕ) {t : Bool} → i < n → r ≡ i + 1 + placeOf (getD l i 0) (drop (i + 1) (take n l)) → ((eqb (getD l i 0) 0 || ltb r n) || ltb top (getD l i 0)) ≡ t
+      → idsOk top (drop i (take n l)) ≡ (not t && idsOk top (drop (i + 1) (take n l)))
+  unfolding idsOk
+  ids-turn top i r b e f =
+      ap₂ _&&_ (apart-turn i r b e refl) (above-turn top i b)
+      ∙ go (eqb (getD l i 0) 0 || ltb r n) (decLt top (getD l i 0))
+      ∙ ap (λ (x : Bool). not x && (apart behind && noneAbove top behind)) f
+    where
+      behind : List ℕ
+      behind = drop (i + 1) (take n l)
+
+      go : (a : Bool) → Dec (top < getD l i 0)
+          → ((not a && apart behind) && (leb (getD l i 0) top && noneAbove top behind)) ≡ (not (a || ltb top (getD l i 0)) && (apart behind && noneAbove top behind))
+      go true d = refl
+      go false (yes h) =
+          ap (λ (x : Bool). apart behind && (x && noneAbove top behind)) (lt-leb (getD l i 0) top h)
+          ∙ and-none (apart behind)
+          ∙ sym (ap (λ (x : Bool). not x && (apart behind && noneAbove top behind)) (lt-ltb top (getD l i 0) h))
+      go false (no h) =
+          ap (λ (x : Bool). apart behind && (x && noneAbove top behind)) (le-leb (getD l i 0) top (omega arith))
+          ∙ sym (ap (λ (x : Bool). not x && (apart behind && noneAbove top behind)) (le-ltb top (getD l i 0) (omega arith)))
+
   pub most-turn : (i m : ℕ) → 0 < i → i ≤ n → m ≡ largest (drop i (take n l)) → pick (ltb m (getD l (i - 1) 0)) (getD l (i - 1) 0) m ≡ largest (drop (i - 1) (take n l))
   unfolding largest
   most-turn i m p b e =
@@ -128,24 +160,38 @@ module _ (l : List ℕ) (n : ℕ) (eight : length l ≡ mostNodes) (h : n ≤ mo
       ap (λ (k : ℕ). pick (ltb k (getD l (i - 1) 0)) (getD l (i - 1) 0) k) (e ∙ ap (λ (k : ℕ). largest (drop k (take n l))) f)
       ∙ sym (ap largest (rest l n eight h (i - 1) (omega arith)))
 
--- none is above what the largest is not above
-pub above-largest : (h : ℕ) (l : List ℕ) → noneAbove h l ≡ leb (largest l) h
-unfolding noneAbove largest
-above-largest h [] = sym (le-leb 0 h (omega arith))
-above-largest h (x ∷ l) =
-    ap (λ (b : Bool). leb x h && b) (above-largest h l)
-    ∙ pick-case (λ (z : ℕ). (leb x h && leb (largest l) h) ≡ leb z h) (ltb (largest l) x) x (largest l)
-    (λ e. let b = ltb-true (largest l) x e in upper (leb x h) refl (omega arith))
-    (λ e. let b = ltb-false (largest l) x e in lower (leb x h) refl (omega arith))
-  where
-    upper : (b : Bool) → leb x h ≡ b → largest l ≤ x → (b && leb (largest l) h) ≡ b
-    upper true e m = let g = leb-true x h e in le-leb (largest l) h (omega arith)
-    upper false e m = refl
-
-    lower : (b : Bool) → leb x h ≡ b → x ≤ largest l → (b && leb (largest l) h) ≡ leb (largest l) h
-    lower true e m = refl
-    lower false e m = let g = leb-false x h e in sym (lt-leb (largest l) h (omega arith))
-
 -- zeros from a place on
 pub zeros-turn : (l : List ℕ) (i : ℕ) → i < length l → allZero (drop i l) ≡ (eqb (getD l i 0) 0 && allZero (drop (i + 1) l))
 zeros-turn l i h = ap allZero (drop-cons l i 0 h) ∙ ap (λ (k : ℕ). eqb (getD l i 0) 0 && allZero (drop k l)) (sym (add-one i))
+
+-- ---- zeros place by place
+
+-- the places from i on, k + 1 of them: each is before n, or 0
+abbrev pub clearFrom : ℕ → ℕ → ℕ → List ℕ → Bool
+clearFrom zero i n l = ltb i n || eqb (getD l i 0) 0
+clearFrom (suc k) i n l = (ltb i n || eqb (getD l i 0) 0) && clearFrom k (suc i) n l
+
+and-all : (b : Bool) → (b && true) ≡ b
+and-all true = refl
+and-all false = refl
+
+clear-behind : (k i n : ℕ) (l : List ℕ) → n ≤ i → i + suc k ≡ length l → clearFrom k i n l ≡ allZero (drop i l)
+clear-behind zero i n l h e =
+    ap (λ (b : Bool). b || eqb (getD l i 0) 0) (le-ltb i n h)
+    ∙ sym (and-all (eqb (getD l i 0) 0))
+    ∙ sym (zeros-turn l i (omega arith) ∙ ap (λ (m : List ℕ). eqb (getD l i 0) 0 && allZero m) (drop-of-length-le l {i = i + 1} (omega arith)))
+clear-behind (suc k) i n l h e =
+    ap₂ _&&_ (ap (λ (b : Bool). b || eqb (getD l i 0) 0) (le-ltb i n h)) (clear-behind k (suc i) n l (omega arith) (omega arith) ∙ ap (λ (j : ℕ). allZero (drop j l)) (sym (add-one i)))
+    ∙ sym (zeros-turn l i (omega arith))
+
+pub clear-all : (k i n : ℕ) (l : List ℕ) → i ≤ n → i + suc k ≡ length l → clearFrom k i n l ≡ allZero (drop n l)
+clear-all zero i n l h e = go (decLt i n)
+  where
+    go : Dec (i < n) → clearFrom zero i n l ≡ allZero (drop n l)
+    go (yes b) = ap (λ (x : Bool). x || eqb (getD l i 0) 0) (lt-ltb i n b) ∙ sym (ap allZero (drop-of-length-le l {i = n} (omega arith)))
+    go (no b) = let s : i ≡ n = omega arith in clear-behind zero i n l (omega arith) e ∙ ap (λ (j : ℕ). allZero (drop j l)) s
+clear-all (suc k) i n l h e = go (decLt i n) (λ b. clear-all k (suc i) n l b (omega arith))
+  where
+    go : Dec (i < n) → (suc i ≤ n → clearFrom k (suc i) n l ≡ allZero (drop n l)) → clearFrom (suc k) i n l ≡ allZero (drop n l)
+    go (yes b) r = ap₂ _&&_ (ap (λ (x : Bool). x || eqb (getD l i 0) 0) (lt-ltb i n b)) (r b)
+    go (no b) r = let s : i ≡ n = omega arith in clear-behind (suc k) i n l (omega arith) e ∙ ap (λ (j : ℕ). allZero (drop j l)) s

@@ -5,7 +5,8 @@ ghost use lib.ListN.{getD, take, drop};
 ghost use lib.Dec.{ltb, eqb};
 ghost use Rattle.store.specs.Table.{allZero};
 ghost use Rattle.wire.specs.Numbers.{pick, numberOf};
-ghost use Rattle.steps.specs.Chain.{mostNodes, members, memb, firstOf, lastOf, nextOf, placeOf, insertAt, removeAt, apart, largest, joiningOk, changeOk, chainOk, startChain, startCall};
+ghost use Rattle.steps.specs.Chain.{mostNodes, members, memb, firstOf, lastOf, nextOf, placeOf, insertAt, removeAt, largest, joiningOk, changeOk, chainOk, startChain, startCall};
+ghost use Rattle.chain.specs.Ids.{idsOk};
 use steps::Chain;
 use steps::Change;
 use steps::Joining;
@@ -102,15 +103,15 @@ pub fn next(c: Chain, id: u16) -> u16
 
 // ---- the rules
 
-// Whether the first n ids are distinct and not 0.
-fn distinct(places: [u16; 8], n: usize) -> bool
+// Whether the first n ids are distinct, not 0 and not above the highest.
+fn ids_ok(places: [u16; 8], n: usize, highest: u16) -> bool
     requires { ⌜ n ≤ mostNodes ⌝ }
-    ensures { λ r. ⌜ r ≡ apart (take n places) ⌝ }
+    ensures { λ r. ⌜ r ≡ idsOk highest (take n places) ⌝ }
 {
     let mut i = 0;
     while i < n {
         let id = places[i];
-        if (id == 0) | (seek(places, n, i + 1, id) < n) {
+        if ((id == 0) | (seek(places, n, i + 1, id) < n)) | (highest < id) {
             return false;
         }
         i += 1;
@@ -118,18 +119,17 @@ fn distinct(places: [u16; 8], n: usize) -> bool
     true
 }
 
-// Whether the places from n on are 0.
+// Whether the places from n on are 0: each of the eight, with no loop.
 fn zeros(places: [u16; 8], n: usize) -> bool
     ensures { λ r. ⌜ r ≡ allZero (drop n places) ⌝ }
 {
-    let mut i = n;
-    while i < MOST_NODES {
-        if places[i] != 0 {
-            return false;
-        }
-        i += 1;
-    }
-    true
+    ((0 < n) | (places[0] == 0))
+        & (((1 < n) | (places[1] == 0))
+            & (((2 < n) | (places[2] == 0))
+                & (((3 < n) | (places[3] == 0))
+                    & (((4 < n) | (places[4] == 0))
+                        & (((5 < n) | (places[5] == 0))
+                            & (((6 < n) | (places[6] == 0)) & ((7 < n) | (places[7] == 0))))))))
 }
 
 // The largest of the first n ids; 0 where there is none.
@@ -177,11 +177,10 @@ pub fn good(c: Chain) -> bool
     let length = wide(c.length as u16);
     let n = used(c.length);
     ((0 < c.length) & (length <= MOST_NODES))
-        & (distinct(places, n)
+        & (ids_ok(places, n, c.highest)
             & (zeros(places, length)
                 & (!session.same(Session(0))
-                    & ((most(places, n) <= c.highest)
-                        & (((0 < c.count) & (wide(c.count) <= MOST_SLOTS)) & change(c))))))
+                    & (((0 < c.count) & (wide(c.count) <= MOST_SLOTS)) & change(c)))))
 }
 
 // ---- one id inserted or removed

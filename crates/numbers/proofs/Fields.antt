@@ -13,9 +13,9 @@ use Rattle.wire.specs.Version.{stamp, version}
 use Rattle.wire.specs.declared.Head.{Head}
 use Rattle.wire.specs.declared.Version.{Version}
 use Rattle.wire.proofs.Numbers.{pick-true, pick-false, Reflects, reflects-yes, reflects-no, reflect-eqb, reflect-leb, reflect-and, reflect-iff}
-use Rattle.numbers.specs.Record.{topByte, topId, within, atMost}
+use Rattle.numbers.specs.Record.{topByte, topId, within, lowBits}
 use Rattle.numbers.specs.Fields.{fieldsSize, fieldsFit, headFrom, FieldsStand, noHead, headOr, fieldsOf, fieldsGiven}
-use Rattle.numbers.proofs.Record.{at-most, reflect-within}
+use Rattle.numbers.proofs.Record.{low-bits, reflect-within}
 
 -- ---- which numbers stand for fields
 
@@ -75,11 +75,11 @@ or-none f n = pick-false _ _ _ (reflects-no (reflect-fields f) n)
 
 -- made of numbers, each at most as large as its field allows
 pub head-is : (f : List ℕ) → FieldsStand f → {a b c d e l : ℕ} {v : Version} {s : ℕ}
-    → a ≡ atMost topByte (getD f 0 0) → b ≡ atMost topByte (getD f 1 0) → c ≡ atMost topId (getD f 2 0) → d ≡ atMost topId (getD f 3 0) → e ≡ atMost topId (getD f 4 0)
-    → s ≡ atMost topId (getD f 7 0) → v ≡ version s (getD f 8 0) → l ≡ atMost topByte (getD f 9 0)
+    → a ≡ lowBits topByte (getD f 0 0) → b ≡ lowBits topByte (getD f 1 0) → c ≡ lowBits topId (getD f 2 0) → d ≡ lowBits topId (getD f 3 0) → e ≡ lowBits topId (getD f 4 0)
+    → s ≡ lowBits topId (getD f 7 0) → v ≡ version s (getD f 8 0) → l ≡ lowBits topByte (getD f 9 0)
     → record { op = a; answer = b; from = c; to = d; client = e; request = getD f 5 0; stamp = stamp (getD f 6 0); version = v; length = l } ≡ headFrom f
 unfolding headFrom
-head-is f s a b c d e g v l = cc (at-most (s .op), at-most (s .answer), at-most (s .from), at-most (s .to), at-most (s .client), at-most (s .session), at-most (s .length))
+head-is f s a b c d e g v l = cc (low-bits (s .op), low-bits (s .answer), low-bits (s .from), low-bits (s .to), low-bits (s .client), low-bits (s .session), low-bits (s .length))
 
 -- ---- going out
 

@@ -2,3 +2,4 @@ pub mod Record
 pub mod Fields
 pub mod RoundTrip
 pub mod Answers
+pub mod Examples

@@ -4,12 +4,13 @@ use mathlib.Core.Path.{_≡_, refl, sym, ap, _∙_}
 use mathlib.Core.List.{List, _++_}
 use mathlib.Core.Bool.{Bool, true, false, not, _&&_}
 use mathlib.Core.Logic.{_⊎_, ⊎-elim}
+use native.Mathlib.Nat.{mod-eq-of-lt}
 use native.Mathlib.Omega.{arith}
 use native.Mathlib.Decide.{ℕ-discrete, decLt}
 use lib.ListN.{length, getD, take, drop, replicate, length-take, length-drop, length-append, length-replicate, getD-replicate, List·getD-append, List·getD-eq-default}
 use lib.Dec.{leb, eqb}
 use lib.Seq.{getD-take, getD-drop, getD-append-add, sets}
-use borrow.Author.Tests.{le-leb, lt-leb, eq-eqb, ne-eqb, eqb-true}
+use borrow.Author.Tests.{eq-eqb, ne-eqb, eqb-true}
 use Rattle.be.specs.Be.{put}
 use Rattle.be.proofs.Laws.{sets-put}
 use Rattle.wire.specs.Numbers.{refuse, ok, left, broken}
@@ -22,15 +23,12 @@ use Rattle.steps.specs.declared.Change.{Change}
 use Rattle.steps.specs.declared.Change.the-variants.{Still, Before, After}
 use Rattle.steps.specs.declared.Ruling.{Ruling}
 use Rattle.steps.specs.Chain.{mostNodes}
-use Rattle.numbers.specs.Record.{recordSize, topByte, topId, kindNone, kindBefore, within, atMost, changeFits, recordFits, changeOf, joiningIn, placesMade, joiningMade, chainOf, recordOf, recordOr, noRecord, ChangeStands, Stands, numbersOf, Settles, placesOf}
+use Rattle.numbers.specs.Record.{recordSize, topByte, topId, kindNone, kindBefore, within, lowBits, changeFits, recordFits, changeOf, joiningIn, placesMade, joiningMade, chainOf, recordOf, recordOr, noRecord, ChangeStands, Stands, numbersOf, Settles, placesOf}
 
 -- ---- one number
 
-pub at-most : {top n : ℕ} → n ≤ top → atMost top n ≡ n
-at-most {top} {n} h = pick-true (leb n top) n 0 (le-leb n top h)
-
-pub over : {top n : ℕ} → top < n → atMost top n ≡ 0
-over {top} {n} h = pick-false (leb n top) n 0 (lt-leb n top h)
+pub low-bits : {top n : ℕ} → n ≤ top → lowBits top n ≡ n
+low-bits h = mod-eq-of-lt (omega arith)
 
 -- ---- the kind of change
 
@@ -134,22 +132,22 @@ or-none l n = ap (left noRecord (λ c. c)) (stands-none l n)
 module _ (l : List ℕ) (s : Stands l) where
   places-are : placesMade l ≡ take mostNodes (drop 1 l)
   places-are =
-      by-place mostNodes (take mostNodes (drop 1 l)) (λ i. atMost topId (getD l (1 + i) 0)) (simp (length-take, length-drop) (omega (arith, s .size)))
-      (λ i h. getD-take mostNodes (drop 1 l) i 0 h ∙ getD-drop 1 l i 0 ∙ sym (at-most (s .places i h)))
+      by-place mostNodes (take mostNodes (drop 1 l)) (λ i. lowBits topId (getD l (1 + i) 0)) (simp (length-take, length-drop) (omega (arith, s .size)))
+      (λ i h. getD-take mostNodes (drop 1 l) i 0 h ∙ getD-drop 1 l i 0 ∙ sym (low-bits (s .places i h)))
 
   change-is : changeOf (getD l 13 0) (joiningMade l) ≡ changeOf (getD l 13 0) (joiningIn l)
   change-is = ⊎-elim (λ e. still _ e ∙ sym (still _ e)) some (s .change)
     where
       some : ChangeStands l → changeOf (getD l 13 0) (joiningMade l) ≡ changeOf (getD l 13 0) (joiningIn l)
-      some c = rw (at-most (c .named), at-most (c .fresh), at-most (c .next))
+      some c = rw (low-bits (c .named), low-bits (c .fresh), low-bits (c .next))
 
   -- made of numbers, each at most as large as its place in the record allows
   pub chain-is : {n s′ h k : ℕ} {p : List ℕ} {ch : Change} {j : Joining}
-      → n ≡ atMost topByte (getD l 0 0) → p ≡ placesMade l → s′ ≡ atMost topId (getD l 10 0) → h ≡ atMost topId (getD l 11 0)
-      → k ≡ atMost topId (getD l 12 0) → ch ≡ changeOf (getD l 13 0) j → j ≡ joiningMade l
+      → n ≡ lowBits topByte (getD l 0 0) → p ≡ placesMade l → s′ ≡ lowBits topId (getD l 10 0) → h ≡ lowBits topId (getD l 11 0)
+      → k ≡ lowBits topId (getD l 12 0) → ch ≡ changeOf (getD l 13 0) j → j ≡ joiningMade l
       → record { length = n; places = p; wiring = stamp (getD l 9 0); session = session s′; highest = h; count = k; change = ch } ≡ chainOf l
   unfolding chainOf
-  chain-is a b c d e f g = cc (at-most (s .length), places-are, at-most (s .session), at-most (s .highest), at-most (s .count), change-is)
+  chain-is a b c d e f g = cc (low-bits (s .length), places-are, low-bits (s .session), low-bits (s .highest), low-bits (s .count), change-is)
 
 -- ---- going out
 

@@ -1,6 +1,6 @@
 -- The chain record as numbers, as it crosses to C: which numbers stand for a record, and the numbers of a record.
 -- 0 length; 1–8 the places; 9 wiring; 10 session; 11 highest; 12 slot count; 13 kind of change; 14 named; 15 new id; 16 fenced mark; 17 next slot.
-use Prim.Native.Nat.{ℕ, zero, suc, _+_, _<_, _≤_}
+use Prim.Native.Nat.{ℕ, zero, suc, _+_, _%_, _<_, _≤_}
 use mathlib.Core.Path.{_≡_}
 use mathlib.Core.List.{List, [], _∷_, _++_}
 use mathlib.Core.Bool.{Bool, true, false, _&&_, _||_, not}
@@ -93,15 +93,15 @@ pub record Stands (l : List ℕ) : Type 0 where
   pub count : getD l 12 0 ≤ topId
   pub change : (getD l 13 0 ≡ kindNone) ⊎ ChangeStands l
 
--- in the code a number over its top counts as 0, and numbers that stand for no record give one that breaks the rules
-abbrev pub atMost : ℕ → ℕ → ℕ
-atMost top n = pick (leb n top) n 0
+-- in the code only the low bits of a number count, which are all where it is at most top, and numbers that stand for no record give one that breaks the rules
+abbrev pub lowBits : ℕ → ℕ → ℕ
+lowBits top n = n % (top + 1)
 
 abbrev pub placesMade : List ℕ → List ℕ
-placesMade l = tab mostNodes (λ i. atMost topId (getD l (1 + i) 0))
+placesMade l = tab mostNodes (λ i. lowBits topId (getD l (1 + i) 0))
 
 abbrev pub joiningMade : List ℕ → Joining
-joiningMade l = joining (atMost topId (getD l 14 0)) (atMost topId (getD l 15 0)) (eqb (getD l 16 0) 1) (atMost topId (getD l 17 0))
+joiningMade l = joining (lowBits topId (getD l 14 0)) (lowBits topId (getD l 15 0)) (eqb (getD l 16 0) 1) (lowBits topId (getD l 17 0))
 
 abbrev pub noRecord : Chain
 noRecord = record {

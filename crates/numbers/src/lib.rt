@@ -5,7 +5,7 @@ ghost use mathlib.Core.List.{[], _∷_};
 ghost use lib.ListN.{length, getD};
 ghost use Rattle.be.specs.Be.{put};
 ghost use Rattle.wire.specs.Packet.{writingNumber};
-ghost use Rattle.numbers.specs.Record.{recordSize, topByte, topId, within, atMost, changeFits, recordFits, noRecord, recordOr, placesMade, joiningMade, chainOf, changeOf, Stands, markOf, kindOf, joiningOf, frontNumbers, changeNumbers, numbersOf, Settles, placesOf};
+ghost use Rattle.numbers.specs.Record.{recordSize, topByte, topId, within, lowBits, changeFits, recordFits, noRecord, recordOr, placesMade, joiningMade, chainOf, changeOf, Stands, markOf, kindOf, joiningOf, frontNumbers, changeNumbers, numbersOf, Settles, placesOf};
 ghost use Rattle.numbers.specs.Fields.{fieldsFit, noHead, headFrom, FieldsStand, headOr, fieldsGiven};
 ghost use Rattle.numbers.specs.Answers.{outcomeCode, foundCode};
 use steps::Chain;
@@ -44,22 +44,20 @@ fn wide8(n: u8) -> u32
     n as u32
 }
 
-// The number at a place, or 0 where it has more than 16 bits.
+// The low 16 bits of the number at a place.
 fn id_at(l: &[u32], i: usize) -> u16
     requires { ⌜ i < length (now l) ⌝ }
-    ensures { λ r. ⌜ r ≡ atMost topId (getD (now (l .entry)) i 0) ⌝ }
+    ensures { λ r. ⌜ r ≡ lowBits topId (getD (now (l .entry)) i 0) ⌝ }
 {
-    let n = l[i];
-    if n <= TOP_ID { n as u16 } else { 0 }
+    (l[i] % (TOP_ID + 1)) as u16
 }
 
-// The number at a place, or 0 where it has more than 8 bits.
+// The low 8 bits of the number at a place.
 fn byte_at(l: &[u32], i: usize) -> u8
     requires { ⌜ i < length (now l) ⌝ }
-    ensures { λ r. ⌜ r ≡ atMost topByte (getD (now (l .entry)) i 0) ⌝ }
+    ensures { λ r. ⌜ r ≡ lowBits topByte (getD (now (l .entry)) i 0) ⌝ }
 {
-    let n = l[i];
-    if n <= TOP_BYTE { n as u8 } else { 0 }
+    (l[i] % (TOP_BYTE + 1)) as u8
 }
 
 // ---- the record, coming in

@@ -1,7 +1,7 @@
 -- Laws that the functions of this crate share: parts of a slice, the test of bytes, an outlet that is emitted or written to.
 use Prim.Native.Nat.{ℕ, _+_, _-_, _≤_}
 use mathlib.Core.Path.{_≡_, refl, sym, ap, _∙_}
-use mathlib.Core.Bool.{Bool, true, false, _&&_}
+use mathlib.Core.Bool.{Bool, true, false, _&&_, _||_}
 use mathlib.Core.List.{List, []}
 use mathlib.Core.Logic.{_⊎_, inl, inr}
 use native.Mathlib.Omega.{arith}
@@ -17,6 +17,12 @@ use Rattle.wire.specs.declared.Head.{Head}
 use Rattle.wire.proofs.Numbers.{Reflects, reflects-yes, reflects-no, reflects-cases, reflect-and, reflect-eqb, reflect-leb, pick-true, pick-false}
 use Rattle.wire.proofs.Packet.{reflect-formed, ReadView, read-done, read-refused}
 use Rattle.packet.specs.Emit.{sessionAt, room, emitted}
+
+-- ---- the test of bytes: a row that does not hold
+
+pub or-none : (b : Bool) → (b || false) ≡ b
+or-none true = refl
+or-none false = refl
 
 -- ---- parts of a slice
 

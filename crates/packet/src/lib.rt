@@ -3,7 +3,7 @@ ghost use mathlib.Core.Path.{_≡_};
 ghost use Prim.Native.Nat.{_≤_};
 ghost use lib.ListN.{length};
 ghost use Rattle.be.specs.Be.{put};
-ghost use Rattle.wire.specs.Packet.{frontSize, keySize, valueSize, outletSize, headOf, keyOf, valueOf, frontOf, backOf, shapeOk, headOk, wellFormed, readCall, readingOf, keyPart, valuePart, packet, packetOk, sentIn, WriteGives};
+ghost use Rattle.wire.specs.Packet.{frontSize, keySize, valueSize, outletSize, headOf, keyOf, valueOf, frontOf, backOf, query, shapeOk, headOk, wellFormed, readCall, readingOf, keyPart, valuePart, packet, packetOk, sentIn, WriteGives};
 ghost use Rattle.packet.specs.Emit.{sessionAt, emitted};
 use wire::Head;
 use wire::Reading;
@@ -37,18 +37,27 @@ fn fields(p: &[u8]) -> Head
     }
 }
 
-// The table of cases: answer, op, length, version.
-fn shape_ok(answer: u8, op: u8, n: u8, v: Version) -> bool
+// The table of cases, answer, op, length, version: the rows of queries.
+fn query_ok(op: u8, n: u8, v: Version) -> bool
+    ensures { λ r. ⌜ r ≡ shapeOk query op n v ⌝ }
+{
+    let zero = v.is_zero();
+    let orderly = v.is_orderly();
+    let empty = n == 0;
+    let read = (op == wire::OP_READ) & (empty & zero);
+    let write = (op == wire::OP_WRITE) & orderly;
+    let delete = (op == wire::OP_DELETE) & (empty & orderly);
+    read | (write | delete)
+}
+
+// The rows of answers.
+fn answer_ok(answer: u8, op: u8, n: u8, v: Version) -> bool
+    requires { ⌜ (answer ≡ query → ⊥) ⌝ }
     ensures { λ r. ⌜ r ≡ shapeOk answer op n v ⌝ }
 {
     let zero = v.is_zero();
     let given = v.is_given();
-    let orderly = v.is_orderly();
-    let asks = answer == wire::QUERY;
     let empty = n == 0;
-    let read = asks & ((op == wire::OP_READ) & (empty & zero));
-    let write = asks & ((op == wire::OP_WRITE) & orderly);
-    let delete = asks & ((op == wire::OP_DELETE) & (empty & orderly));
     let value = (answer == wire::ANSWER_VALUE) & ((op == wire::OP_READ) & given);
     let no_value = (answer == wire::ANSWER_NO_VALUE)
         & ((op == wire::OP_READ) & (empty & (zero | given)));
@@ -56,7 +65,16 @@ fn shape_ok(answer: u8, op: u8, n: u8, v: Version) -> bool
         & (((0 < op) & (op <= wire::OP_DELETE)) & (empty & zero));
     let written = (answer == wire::ANSWER_WRITTEN)
         & (((op == wire::OP_WRITE) | (op == wire::OP_DELETE)) & (empty & given));
-    read | (write | (delete | (value | (no_value | (no_key | written)))))
+    value | (no_value | (no_key | written))
+}
+
+fn shape_ok(answer: u8, op: u8, n: u8, v: Version) -> bool
+    ensures { λ r. ⌜ r ≡ shapeOk answer op n v ⌝ }
+{
+    if answer == wire::QUERY {
+        return query_ok(op, n, v);
+    }
+    answer_ok(answer, op, n, v)
 }
 
 fn head_ok(h: Head) -> bool

@@ -1,5 +1,5 @@
 -- What the functions over a table's bytes give on any slice, a table or not.
-use Prim.Native.Nat.{ℕ}
+use Prim.Native.Nat.{ℕ, zero, suc}
 use mathlib.Core.List.{List, []}
 use mathlib.Core.Bool.{Bool, _&&_, not}
 use lib.ListN.{length}
@@ -39,9 +39,22 @@ versionPart r = pick (eqb (length r) rowSize) (slotOf r .version) zeroVersion
 unfoldable pub valuePart : List ℕ → List ℕ
 valuePart r = pick (eqb (length r) rowSize) (slotOf r .value) []
 
--- a slot that is used and whose key is these two numbers of eight bytes
-unfoldable pub hasHalves : ℕ → ℕ → Slot → Bool
-hasHalves a b s = eqb (be 8 (s .key) 0) a && (eqb (be 8 (s .key) 8) b && not (eqb (s .state) free))
+-- a slot that is used and whose key has the same two halves, as numbers of eight bytes
+unfoldable pub hasHalves : List ℕ → Slot → Bool
+hasHalves key s = eqb (be 8 (s .key) 0) (be 8 key 0) && (eqb (be 8 (s .key) 8) (be 8 key 8) && not (eqb (s .state) free))
+
+-- slot j of a table, used or not, has the same first half
+unfoldable pub firstHalf : List ℕ → List ℕ → ℕ → Bool
+firstHalf key t j = eqb (be 8 t (rowAt j)) (be 8 key 0)
+
+-- the lowest of the n numbers from i on that passes a test; i + n where none does
+abbrev pub lowest : (ℕ → Bool) → ℕ → ℕ → ℕ
+lowest f i zero = i
+lowest f i (suc n) = pick (f i) i (lowest f (suc i) n)
+
+-- the lowest of the eight slots from i on that has the same first half; i + 8 where none has
+unfoldable pub nearest : List ℕ → List ℕ → ℕ → ℕ
+nearest key t i = lowest (firstHalf key t) i 8
 
 -- ---- what is written
 

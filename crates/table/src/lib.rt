@@ -3,10 +3,11 @@ ghost use mathlib.Core.Path.{_≡_};
 ghost use Prim.Native.Nat.{_+_, _*_, _-_, _<_, _≤_};
 ghost use lib.ListN.{length};
 ghost use Rattle.wire.specs.Packet.{keySize, valueSize};
-ghost use Rattle.store.specs.Table.{slot, slotOf, rowOf, rowSize, rowAt, slots, wholeSlots, tableOk, frameOk, firstFrom, find, lowestFree, headSize, BlankGives, blankBytes};
-ghost use Rattle.table.specs.Parts.{fencePart, idPart, countPart, rowPart, statePart, versionPart, valuePart, hasHalves, slotWritten, slotStored, fenceSet, slotCopied};
+ghost use Rattle.store.specs.Table.{slot, rowOf, rowSize, rowAt, slots, wholeSlots, tableOk, frameOk, find, lowestFree, headSize, BlankGives, blankBytes};
+ghost use Rattle.table.specs.Parts.{fencePart, idPart, countPart, rowPart, statePart, versionPart, valuePart, slotWritten, slotStored, fenceSet, slotCopied};
 
 mod rules;
+mod search;
 
 use store::FREE;
 use store::Found;
@@ -115,35 +116,6 @@ pub fn value(r: &[u8]) -> &[u8]
 
 // ---- which slot
 
-// Whether a slot is used and has the key of these two halves.
-fn holds(r: &[u8], a: u64, b: u64) -> bool
-    requires { ⌜ length (now r) ≡ rowSize ⌝ }
-    ensures { λ x. ⌜ x ≡ hasHalves a b (slotOf (now (r .entry))) ⌝ }
-{
-    if be::read64(r, 0) != a {
-        return false;
-    }
-    if be::read64(r, 8) != b {
-        return false;
-    }
-    r[STATE_AT] != FREE
-}
-
-fn scan(t: &[u8], n: usize, a: u64, b: u64) -> Found
-    requires { ⌜ rowSize * n ≤ length (now t) - headSize ⌝ }
-    ensures { λ x. ⌜ x ≡ firstFrom (hasHalves a b) 0 (slots n (now (t .entry))) ⌝ }
-{
-    let mut i = 0;
-    while i < n {
-        let from = HEAD_SIZE + ROW_SIZE * i;
-        if holds(&t[from..from + ROW_SIZE], a, b) {
-            return Found::At(i);
-        }
-        i += 1;
-    }
-    Found::Nothing
-}
-
 // The lowest used slot that has the key, of a table or any other slice.
 pub fn find(t: &[u8], key: &[u8]) -> Found
     ensures { λ x. ⌜ x ≡ find (now (key .entry)) (slots (wholeSlots (now (t .entry))) (now (t .entry))) ⌝ }
@@ -151,7 +123,7 @@ pub fn find(t: &[u8], key: &[u8]) -> Found
     if key.len() != KEY_SIZE {
         return Found::Nothing;
     }
-    scan(t, whole(t), be::read64(key, 0), be::read64(key, 8))
+    search::scan(t, whole(t), key)
 }
 
 fn scan_free(t: &[u8], n: usize) -> Found
@@ -199,6 +171,7 @@ pub fn good(t: &[u8]) -> bool
 
 // ---- what is written
 
+// The zeros come first, and all of them: a fixed count takes eight stores and no call.
 fn fill(part: &mut [u8], key: &[u8], state: u8, v: Version, value: &[u8])
     requires { ⌜ (length (now part) ≡ rowSize) × (length (now key) ≡ keySize) × (length (now value) ≤ valueSize) ⌝ }
     ensures { λ _. ⌜ now (part .exit) ≡ rowOf (slot (now (key .entry)) state v (now (value .entry))) ⌝ }
@@ -206,13 +179,13 @@ fn fill(part: &mut [u8], key: &[u8], state: u8, v: Version, value: &[u8])
     let n = value.len();
     let s = v.session;
     let q = v.sequence;
+    be::put_zeros(part, VALUE_AT, VALUE_SIZE);
     be::put_bytes(part, 0, key);
     be::put8(part, STATE_AT, state);
     be::put8(part, SIZE_AT, n as u8);
     be::put16(part, 18, s.0);
     be::put32(part, 20, q.0);
     be::put_bytes(part, VALUE_AT, value);
-    be::put_zeros(part, VALUE_AT + n, VALUE_SIZE - n);
 }
 
 // The slot writer: writes all of a row that is lent to it, and nothing where the part, the key or the value has no right length.

@@ -1,10 +1,13 @@
-// The rules of a table's rows, eight bytes at a time where that is possible.
+// The rules of a table's rows.
 ghost use mathlib.Core.Path.{_≡_};
-ghost use Prim.Native.Nat.{_+_, _*_, _-_, _%_, _≤_};
+ghost use Prim.Native.Nat.{_+_, _≤_};
 ghost use lib.ListN.{length, drop};
+ghost use mathlib.Core.Bool.{_&&_};
+ghost use lib.Dec.{leb};
 ghost use lib.Seq.{slice};
+ghost use Rattle.wire.specs.Version.{isGiven};
 ghost use Rattle.wire.specs.Packet.{valueSize};
-ghost use Rattle.store.specs.Table.{rowSize, valueAt, rowAt, allZero, usedOk, rowOk, rowsOk};
+ghost use Rattle.store.specs.Table.{rowSize, valueAt, rowAt, allZero, rowOk, rowsOk};
 use crate::wide;
 use store::DELETED;
 use store::ENTERED;
@@ -18,76 +21,75 @@ use store::VALUED;
 use wire::VALUE_SIZE;
 use wire::Version;
 
-// Zeros from `at` to the end, which is a multiple of eight away.
-fn zero_words(s: &[u8], at: usize) -> bool
-    requires { ⌜ (at ≤ length (now s)) × ((length (now s) - at) % 8 ≡ 0) ⌝ }
-    ensures { λ r. ⌜ r ≡ allZero (drop at (now (s .entry))) ⌝ }
+// Zeros in the n bytes from `at` on. There is no way out before the last one: so many bytes are tested at once.
+fn zeros(s: &[u8], at: usize, n: usize) -> bool
+    requires { ⌜ at + n ≤ length (now s) ⌝ }
+    ensures { λ r. ⌜ r ≡ allZero (slice at (at + n) (now (s .entry))) ⌝ }
 {
-    let mut i = at;
-    while i < s.len() {
-        if be::read64(s, i) != 0 {
-            return false;
-        }
-        i += 8;
-    }
-    true
-}
-
-// Zeros from `at` up to `end`.
-fn zero_bytes(s: &[u8], at: usize, end: usize) -> bool
-    requires { ⌜ (at ≤ end) × (end ≤ length (now s)) ⌝ }
-    ensures { λ r. ⌜ r ≡ allZero (slice at end (now (s .entry))) ⌝ }
-{
-    let mut i = at;
-    while i < end {
-        if s[i] != 0 {
-            return false;
-        }
+    let mut all = true;
+    let mut i = 0;
+    while i < n {
+        all = all & (s[at + i] == 0);
         i += 1;
     }
-    true
+    all
 }
 
-// Zeros from behind a value of n bytes to the end of a row. With no value the start is fixed, and the turns are unrolled.
+// Zeros from `at` to the end of a row: in the first k of these bytes and in the last k, where no byte is between.
+fn ends_zero(r: &[u8], at: usize, k: usize) -> bool
+    requires { ⌜ (length (now r) ≡ rowSize) × (at + k ≤ rowSize) × (rowSize ≤ at + k + k) ⌝ }
+    ensures { λ x. ⌜ x ≡ allZero (drop at (now (r .entry))) ⌝ }
+{
+    zeros(r, at, k) & zeros(r, ROW_SIZE - k, k)
+}
+
+// Zeros from behind a value of n bytes to the end of a row: by counts that are fixed, but for the last few bytes.
 fn tail_ok(r: &[u8], n: usize) -> bool
     requires { ⌜ (length (now r) ≡ rowSize) × (n ≤ valueSize) ⌝ }
     ensures { λ x. ⌜ x ≡ allZero (drop (valueAt + n) (now (r .entry))) ⌝ }
 {
-    if n == 0 {
-        return zero_words(r, VALUE_AT);
-    }
     let at = VALUE_AT + n;
-    let end = (at + 7) / 8 * 8;
-    if zero_bytes(r, at, end) {
-        return zero_words(r, end);
+    if n <= 64 {
+        return ends_zero(r, at, 64);
     }
-    false
+    if n <= 96 {
+        return ends_zero(r, at, 32);
+    }
+    if n <= 112 {
+        return ends_zero(r, at, 16);
+    }
+    if n <= 120 {
+        return ends_zero(r, at, 8);
+    }
+    zeros(r, at, ROW_SIZE - at)
 }
 
-fn used_ok(state: u8, n: usize, v: Version) -> bool
-    ensures { λ r. ⌜ r ≡ usedOk state n v ⌝ }
+// A slot that has a value, of n bytes.
+fn valued_ok(r: &[u8], n: usize, v: Version) -> bool
+    requires { ⌜ length (now r) ≡ rowSize ⌝ }
+    ensures { λ x. ⌜ x ≡ (leb n valueSize && isGiven v) && allZero (drop (valueAt + n) (now (r .entry))) ⌝ }
 {
-    let given = v.is_given();
-    ((state == ENTERED) & ((n == 0) & v.is_zero()))
-        | (((state == VALUED) & given) | ((state == DELETED) & ((n == 0) & given)))
+    if (n <= VALUE_SIZE) & v.is_given() {
+        return tail_ok(r, n);
+    }
+    false
 }
 
 fn row_ok(r: &[u8]) -> bool
     requires { ⌜ length (now r) ≡ rowSize ⌝ }
     ensures { λ x. ⌜ x ≡ rowOk (now (r .entry)) ⌝ }
 {
-    let n = wide(r[SIZE_AT]);
-    if VALUE_SIZE < n {
-        return false;
-    }
     let state = r[STATE_AT];
     if state == FREE {
-        return zero_words(r, 0);
+        return zeros(r, 0, ROW_SIZE);
     }
-    if used_ok(state, n, Version::new(be::read16(r, 18), be::read32(r, 20))) {
-        return tail_ok(r, n);
+    let n = wide(r[SIZE_AT]);
+    let v = Version::new(be::read16(r, 18), be::read32(r, 20));
+    if state == VALUED {
+        return valued_ok(r, n, v);
     }
-    false
+    (((state == ENTERED) & v.is_zero()) | ((state == DELETED) & v.is_given()))
+        & ((n == 0) & zeros(r, VALUE_AT, VALUE_SIZE))
 }
 
 pub(crate) fn rows_ok(t: &[u8], n: usize) -> bool

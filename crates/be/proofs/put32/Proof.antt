@@ -1,66 +1,29 @@
--- `be::put32` meets its contract: a run of four stores is a put.
-use native.Mathlib.Numerals.{unary-clauses}
-use native.Mathlib.Omega.{arith}
+-- `be::put32` meets its contract: the bytes in the other order, the lowest first, are the bytes.
+use Prim.Native.Nat.{ℕ}
+use mathlib.Core.Path.{ap, _∙_}
 use borrow.Author.Needs.{needs}
-use lib.ListN.{length-set}
-use Rattle.be.specs.Be.{digits}
-use Rattle.be.proofs.Laws.{sets-put}
+use Rattle.be.specs.Be.{lowFirst, put}
+use Rattle.be.proofs.Laws.{swapped-back}
 use Rattle.be.proofs.put32.Statement.{statement}
 use Rattle.be.proofs.put32.Tie as tie
 
-cast-s : tie.Need-cast-s
-cast-s c = search needs
+swap32-requires : tie.Need-swap32-requires
+swap32-requires c κs = search needs
 
-slice-write-s : tie.Need-slice-write-s
-slice-write-s c = search needs
-
-cast-s-2 : tie.Need-cast-s-2
-cast-s-2 c = search needs
-
-add-s : tie.Need-add-s
-add-s c = search needs
-
-slice-write-s-2 : tie.Need-slice-write-s-2
-slice-write-s-2 c = simp length-set (omega arith)
-
-cast-s-3 : tie.Need-cast-s-3
-cast-s-3 c = search needs
-
-add-s-2 : tie.Need-add-s-2
-add-s-2 c = search needs
-
-slice-write-s-3 : tie.Need-slice-write-s-3
-slice-write-s-3 c = simp length-set (omega arith)
-
-cast-s-4 : tie.Need-cast-s-4
-cast-s-4 c = search needs
-
-add-s-3 : tie.Need-add-s-3
-add-s-3 c = search needs
-
-slice-write-s-4 : tie.Need-slice-write-s-4
-slice-write-s-4 c = simp length-set (omega arith)
+store32-requires : tie.Need-store32-requires
+store32-requires c κs = search needs
 
 same-length : tie.Need-same-length
 same-length c = search needs
 
 returns : tie.Need-returns
-returns c = simp unary-clauses (sets-put (digits 4 (c .args .n)) (c .args .s .now) (c .args .at) (omega arith))
+returns c =
+    let c2 = c .before .before in
+    let c1 = c2 .before in
+    let s = c1 .before .before .before .args in
+    c2 .store32 .ensures
+    ∙ ap (λ (m : ℕ). put (s .s .now) (s .at) (lowFirst 4 m)) (c1 .swap32 .ensures)
+    ∙ ap (put (s .s .now) (s .at)) (swapped-back 4 (s .n))
 
 pub put32-spec : {M : Type 1} → statement M
-put32-spec =
-    tie.close
-    (tie.spec
-    cast-s
-    slice-write-s
-    cast-s-2
-    add-s
-    slice-write-s-2
-    cast-s-3
-    add-s-2
-    slice-write-s-3
-    cast-s-4
-    add-s-3
-    slice-write-s-4
-    same-length
-    returns)
+put32-spec = tie.close (tie.spec swap32-requires store32-requires same-length returns)

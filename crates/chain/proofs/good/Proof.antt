@@ -16,17 +16,14 @@ wide-requires c κs = search needs
 used-requires : tie.Need-used-requires
 used-requires c κs = search needs
 
-distinct-requires : tie.Need-distinct-requires
-distinct-requires c κs = search needs
+ids-ok-requires : tie.Need-ids-ok-requires
+ids-ok-requires c κs = search needs
 
 zeros-requires : tie.Need-zeros-requires
 zeros-requires c κs = search needs
 
 same-requires : tie.Need-same-requires
 same-requires c κs = search needs
-
-most-requires : tie.Need-most-requires
-most-requires c κs = search needs
 
 wide-requires-2 : tie.Need-wide-requires-2
 wide-requires-2 c κs = search needs
@@ -36,15 +33,14 @@ change-requires c κs = search needs
 
 returns : tie.Need-returns
 returns c =
-    let start = c .before .before .before .before .before .before .before .before .before .before .before .before .before .before in
+    let start = c .before .before .before .before .before .before .before .before .before .before .before .before in
     let eight : length (start .args .c .places) ≡ mostNodes = search needs in
     good-is (start .args .c) eight
-    (c .before .before .before .before .before .before .before .before .before .before .wide .ensures .0)
-    (c .before .before .before .before .before .before .before .before .before .used .ensures .0)
-    (c .before .before .before .before .before .before .before .distinct .ensures)
-    (c .before .before .before .before .before .before .zeros .ensures)
-    (c .before .before .before .before .before .same .ensures)
-    (c .before .before .before .before .most .ensures)
+    (c .before .before .before .before .before .before .before .before .wide .ensures .0)
+    (c .before .before .before .before .before .before .before .used .ensures .0)
+    (c .before .before .before .before .before .ids-ok .ensures)
+    (c .before .before .before .before .zeros .ensures)
+    (c .before .before .before .same .ensures)
     (c .before .wide2 .ensures .0)
     (c .change .ensures)
 
@@ -55,10 +51,9 @@ good-spec =
     cast-wide
     wide-requires
     used-requires
-    distinct-requires
+    ids-ok-requires
     zeros-requires
     same-requires
-    most-requires
     wide-requires-2
     change-requires
     returns)

@@ -1,19 +1,19 @@
--- `packet::shape_ok`: the table of cases is the definition's.
+-- `packet::shape_ok`: each half of the table of cases is the whole one where it is asked.
 use borrow.Author.Needs.{needs}
 use Rattle.packet.proofs.shape_ok.Statement.{statement}
 use Rattle.packet.proofs.shape_ok.Tie as tie
 
-is-zero-requires : tie.Need-is-zero-requires
-is-zero-requires c κs = search needs
-
-is-given-requires : tie.Need-is-given-requires
-is-given-requires c κs = search needs
-
-is-orderly-requires : tie.Need-is-orderly-requires
-is-orderly-requires c κs = search needs
+query-ok-requires : tie.Need-query-ok-requires
+query-ok-requires c κs = search needs
 
 returns : tie.Need-returns
-returns c = rw (c .before .before .is-zero .ensures, c .before .is-given .ensures, c .is-orderly .ensures)
+returns c = cc
+
+answer-ok-requires : tie.Need-answer-ok-requires
+answer-ok-requires c κs = search needs
+
+returns-2 : tie.Need-returns-2
+returns-2 c = search needs
 
 pub shape-ok-spec : {M : Type 1} → statement M
-shape-ok-spec = tie.close (tie.spec is-zero-requires is-given-requires is-orderly-requires returns)
+shape-ok-spec = tie.close (tie.spec query-ok-requires returns answer-ok-requires returns-2)

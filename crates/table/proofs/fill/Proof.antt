@@ -1,16 +1,20 @@
--- `table::fill` meets its contract: seven pieces, one behind the other, are the row.
-use Prim.Native.Nat.{_+_, _-_}
+-- `table::fill` meets its contract: six pieces, one behind the other, and the zeros that are left behind them are the row.
+use Prim.Native.Nat.{_+_}
 use mathlib.Core.List.{[], _∷_}
-use mathlib.Core.Path.{refl}
+use mathlib.Core.Path.{refl, ap, _∙_}
 use native.Mathlib.Omega.{arith}
 use borrow.Author.Needs.{needs}
-use lib.ListN.{length, replicate, length-replicate}
-use Rattle.be.proofs.Laws.{start, grow, finish}
+use lib.ListN.{length, drop}
+use Rattle.be.proofs.Laws.{start, grow}
 use Rattle.be.specs.Be.{digits}
 use Rattle.wire.specs.Packet.{keySize, valueSize}
-use Rattle.store.specs.Table.{rowOf, rowSize, sizeAt, valueAt}
+use Rattle.store.specs.Table.{rowOf, sizeAt, valueAt}
+use Rattle.table.proofs.Laws.{drop-cleared, behind}
 use Rattle.table.proofs.fill.Statement.{statement}
 use Rattle.table.proofs.fill.Tie as tie
+
+put-zeros-requires : tie.Need-put-zeros-requires
+put-zeros-requires c κs = search needs
 
 put-bytes-requires : tie.Need-put-bytes-requires
 put-bytes-requires c κs = search needs
@@ -33,15 +37,6 @@ put32-requires c κs = search needs
 put-bytes-requires-2 : tie.Need-put-bytes-requires-2
 put-bytes-requires-2 c κs = search needs
 
-add-put-zeros : tie.Need-add-put-zeros
-add-put-zeros c = search needs
-
-sub-put-zeros : tie.Need-sub-put-zeros
-sub-put-zeros c = search needs
-
-put-zeros-requires : tie.Need-put-zeros-requires
-put-zeros-requires c κs = search needs
-
 same-length : tie.Need-same-length
 same-length c = search needs
 
@@ -59,19 +54,19 @@ returns c =
     let s = c0 .args in
     let p = c0 .pre in
     let n = length (s .value .now) in
-    let g1 = grow (s .key .now) keySize (start (s .part .now)) (c1 .put-bytes .ensures) (omega arith) in
-    let g2 = grow (s .state ∷ []) sizeAt g1 (c2 .put8 .ensures) refl in
-    let g3 = grow (n ∷ []) 18 g2 (c3 .put82 .ensures) refl in
-    let g4 = grow (digits 2 (s .v .session .0)) 20 g3 (c4 .put16 .ensures) refl in
-    let g5 = grow (digits 4 (s .v .sequence .0)) valueAt g4 (c5 .put32 .ensures) refl in
-    let g6 = grow (s .value .now) (valueAt + n) g5 (c6 .put-bytes2 .ensures) refl in
-    let g7 = grow (replicate (valueSize - n) 0) rowSize g6 (c7 .put-zeros .ensures) (rw length-replicate (omega arith)) in
-    finish g7 (omega arith)
+    let g2 = grow (s .key .now) keySize (start (c1 .put-zeros .last .0)) (c2 .put-bytes .ensures) (omega arith) in
+    let g3 = grow (s .state ∷ []) sizeAt g2 (c3 .put8 .ensures) refl in
+    let g4 = grow (n ∷ []) 18 g3 (c4 .put82 .ensures) refl in
+    let g5 = grow (digits 2 (s .v .session .0)) 20 g4 (c5 .put16 .ensures) refl in
+    let g6 = grow (digits 4 (s .v .sequence .0)) valueAt g5 (c6 .put32 .ensures) refl in
+    let g7 = grow (s .value .now) (valueAt + n) g6 (c7 .put-bytes2 .ensures) refl in
+    behind g7 (ap (drop (valueAt + n)) (c1 .put-zeros .ensures) ∙ drop-cleared (s .part .now) valueAt valueSize n (omega arith) (omega arith))
 
 pub fill-spec : {M : Type 1} → statement M
 fill-spec =
     tie.close
     (tie.spec
+    put-zeros-requires
     put-bytes-requires
     put8-requires
     cast-put8
@@ -79,8 +74,5 @@ fill-spec =
     put16-requires
     put32-requires
     put-bytes-requires-2
-    add-put-zeros
-    sub-put-zeros
-    put-zeros-requires
     same-length
     returns)

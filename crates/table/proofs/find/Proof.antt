@@ -18,25 +18,19 @@ returns c =
 whole-requires : tie.Need-whole-requires
 whole-requires c κs = search needs
 
-read64-requires : tie.Need-read64-requires
-read64-requires c κs = search needs
-
-read64-requires-2 : tie.Need-read64-requires-2
-read64-requires-2 c κs = search needs
-
 scan-requires : tie.Need-scan-requires
-scan-requires c κs = omega arith
+scan-requires c κs = (omega arith, omega arith)
 
 returns-2 : tie.Need-returns-2
 returns-2 c =
-    let s = c .before .before .before .before .before .before .before .args in
-    let bt : Bytes (s .t .now) = λ i h. omega (arith, c .before .before .before .before .before .before .shared-slice-known .given i) in
-    let bk : Bytes (s .key .now) = λ i h. omega (arith, c .before .before .before .before .before .shared-slice-known2 .given i) in
+    let s = c .before .before .before .before .before .args in
+    let bt : Bytes (s .t .now) = λ i h. omega (arith, c .before .before .before .before .shared-slice-known .given i) in
+    let bk : Bytes (s .key .now) = λ i h. omega (arith, c .before .before .before .shared-slice-known2 .given i) in
     let room : rowSize * wholeSlots (s .t .now) ≤ length (s .t .now) - headSize = omega arith in
-    rw (c .scan .ensures, c .before .before .before .whole .ensures, c .before .before .read64 .ensures, c .before .read642 .ensures)
-    (find-halves (s .key .now) (s .t .now) (wholeSlots (s .t .now)) (c .before .before .before .before .if1 .left) bk bt room)
+    rw (c .scan .ensures, c .before .whole .ensures)
+    (find-halves (s .key .now) (s .t .now) (wholeSlots (s .t .now)) (c .before .before .if1 .left) bk bt room)
 
 pub find-spec : {M : Type 1} → statement M
 find-spec =
     tie.close
-    (tie.spec returns whole-requires read64-requires read64-requires-2 scan-requires returns-2)
+    (tie.spec returns whole-requires scan-requires returns-2)
