@@ -65,6 +65,13 @@ module _ (s : StateB) (g : SoundB s) where
   simulate (entering j id key) en = visible (enters j id key) (en .2) (entering-becomes s g j id key en)
   simulate (halting j) en = visible (halts j) tt (halting-becomes s g j)
 
+  pub simulate-sound : (e : EventB) → EnabledB e s → SoundB (execB e s)
+  simulate-sound e en = go (simulate e en)
+    where
+      go : Simulates e s → SoundB (execB e s)
+      go (hidden b) = b .sound
+      go (visible d ed b) = b .sound
+
 -- ---- the start
 
 start-sound : (s : StateB) → StartB s → SoundB s × Start (decode s)

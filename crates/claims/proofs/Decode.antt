@@ -23,7 +23,7 @@ use Rattle.claims.specs.Bytes.{IsNode, EventB, asking, relaying, steppin
 abbrev pub isNode : ℕ → Bool
 isNode j = ltb 0 j && ltb j (256 ^ 2)
 
-reflect-node : (j : ℕ) → Reflects (isNode j) (IsNode j)
+pub reflect-node : (j : ℕ) → Reflects (isNode j) (IsNode j)
 reflect-node j = reflect-and (reflect-ltb 0 j) (reflect-ltb j (256 ^ 2))
 
 -- the table of a node is what its bytes hold; where there can be no node it is blank

@@ -1,12 +1,13 @@
 -- The entries of a trace over bytes: what is true of each, and what the decoded trace has of it, both ways.
 use Prim.Native.Nat.{ℕ, _<_}
 use mathlib.Core.Path.{_≡_, refl, sym, ap, _∙_, subst}
-use mathlib.Core.List.{List, [], _∷_, map, List·Memᴰ as Mem, List·Memᴰ·head as here, List·Memᴰ·tail as there, Memᴰ·of-map as of-map, Memᴰ·append-left as append-left, Memᴰ·append-right as append-right, List·Memᴰ·append-cases as append-cases}
+use mathlib.Core.List.{List, [], _∷_, _++_, map, List·Memᴰ as Mem, List·Memᴰ·head as here, List·Memᴰ·tail as there, Memᴰ·of-map as of-map, Memᴰ·append-left as append-left, Memᴰ·append-right as append-right, List·Memᴰ·append-cases as append-cases}
 use mathlib.Core.Logic.{_⊎_, inl, inr, ⊎-elim}
 use native.Mathlib.Omega.{arith}
 use native.Mathlib.Decide.{decLt}
 use lib.ListN.{length}
 use lib.Dec.{eqb, ltb}
+use Rattle.be.specs.Be.{Bytes}
 use Rattle.wire.specs.Numbers.{Out, refuse, ok, numberOf, left, smallOutlet}
 use Rattle.wire.specs.Packet.{Packet, packetOf, headOf, bytesOf, wellFormed, Formed, sentIn, outletSize, query, opRead}
 use Rattle.wire.specs.declared.Version.{Version}
@@ -26,7 +27,7 @@ use Rattle.protocol.specs.System.{Event, fromClient, noPacket, atRelay, atNode,
 use Rattle.claims.specs.Bytes.{EventB, asking, relaying, stepping, opening, fencing, copying, activating, cancelling, removing, entering, halting, EntryB, StateB, madeIn, firstPacket, execB, EnabledB, ReachB, startB, stepB}
 use Rattle.claims.proofs.Decode.{roomy, eventsOf, entryAs, traceOf, roomy-yes, made-none, made-one}
 use Rattle.claims.proofs.Images.{SoundB, refused, relay-small, node-small}
-use Rattle.claims.proofs.Bridge.{bridge}
+use Rattle.claims.proofs.Bridge.{simulate-sound, bridge}
 
 -- ---- what is true of every entry
 
@@ -43,6 +44,9 @@ pub record EntryGood (x : EntryB) : Type 0 where
   pub formed : (p out q : List ℕ) → x .event ≡ asking p out → x .made ≡ q ∷ [] → Formed p
   -- a node keeps the op, and makes no query of a read
   pub kept : (j : ℕ) (p out q : List ℕ) → x .event ≡ stepping j p out → x .made ≡ q ∷ [] → Kept (headOf p) (headOf q)
+  -- what it made is a packet, and so is what a node made it of
+  pub whole : (q : List ℕ) → x .made ≡ q ∷ [] → Formed q × Bytes q
+  pub handed : (j : ℕ) (p out q : List ℕ) → x .event ≡ stepping j p out → x .made ≡ q ∷ [] → Formed p × Bytes p
 
 pub cons-nil : {A B : Type 0} {a : A} {l : List A} → a ∷ l ≡ [] → B
 cons-nil e = absurd (omega (arith, ap length e))
@@ -65,6 +69,8 @@ quiet x e m = record {
   hidden = λ h. cons-nil (sym e ∙ h);
   formed = λ p out q f g. cons-nil (sym g ∙ m);
   kept = λ j p out q f g. cons-nil (sym g ∙ m);
+  whole = λ q g. cons-nil (sym g ∙ m);
+  handed = λ j p out q f g. cons-nil (sym g ∙ m);
 }
 
 -- what a node sends has the op of what it got, and answers a read
@@ -105,8 +111,12 @@ module _ (s : StateB) (g : SoundB s) where
       (subst (λ (r : Packet). Kept (headOf p) (r .head)) (sym (read-write (x .packet) (sound .fit) (sound .ranges)))
       (node-keeps (tableOf (s .table j)) (packetOf p) x (node-called (s .table j) p out x c .step)))
 
+  -- what an event made is a packet
+  made-whole : (e : EventB) → EnabledB e s → (m : List (List ℕ)) → execB e s .packets ≡ m ++ s .packets → (q : List ℕ) → m ≡ q ∷ [] → Formed q × Bytes q
+  made-whole e en m is q h = simulate-sound s g e en .packets q (subst (Mem q) (sym is) (append-left (s .packets) (subst (Mem q) (sym h) (here refl))))
+
   -- the entry that an event adds
-  added : (e : EventB) → EnabledB e s → (x : EntryB) × (execB e s .trace ≡ x ∷ s .trace) × EntryGood x
+  pub added : (e : EventB) → EnabledB e s → (x : EntryB) × (execB e s .trace ≡ x ∷ s .trace) × EntryGood x
   unfolding execB
   added (asking p out) en = (
     _,
@@ -116,6 +126,8 @@ module _ (s : StateB) (g : SoundB s) where
       hidden = λ h. rw (relay-small s g p out (roomy-small out _ h)) (refl, made-none smallOutlet out (λ z. omega arith));
       formed = λ p′ out′ q e m. let z : p ≡ p′ = cc in subst Formed z (relay-formed p out q _ refl m);
       kept = λ j p′ out′ q e m. absurd (let z : _≡_ {A = ℕ} 0 1 = cc in omega arith);
+      whole = made-whole (asking p out) en _ refl;
+      handed = λ j p′ out′ q e m. absurd (let z : _≡_ {A = ℕ} 0 1 = cc in omega arith);
     },
   )
   added (relaying p out) en = (
@@ -126,6 +138,8 @@ module _ (s : StateB) (g : SoundB s) where
       hidden = λ h. rw (relay-small s g p out (roomy-small out _ h)) (refl, made-none smallOutlet out (λ z. omega arith));
       formed = λ p′ out′ q e m. absurd (let z : _≡_ {A = ℕ} 0 1 = cc in omega arith);
       kept = λ j p′ out′ q e m. absurd (let z : _≡_ {A = ℕ} 0 1 = cc in omega arith);
+      whole = made-whole (relaying p out) en _ refl;
+      handed = λ j p′ out′ q e m. absurd (let z : _≡_ {A = ℕ} 0 1 = cc in omega arith);
     },
   )
   added (stepping j p out) en = (
@@ -136,6 +150,8 @@ module _ (s : StateB) (g : SoundB s) where
       hidden = λ h. rw (node-small s g j p out (en .0) (roomy-small out _ h)) (refl, made-none smallOutlet out (λ z. omega arith));
       formed = λ p′ out′ q e m. absurd (let z : _≡_ {A = ℕ} 0 1 = cc in omega arith);
       kept = λ i p′ out′ q e m. let z : p ≡ p′ = cc in subst (λ (b : List ℕ). Kept (headOf b) (headOf q)) z (node-kept j p out q en _ refl m);
+      whole = made-whole (stepping j p out) en _ refl;
+      handed = λ i p′ out′ q e m. let z : p ≡ p′ = cc in subst (λ (b : List ℕ). Formed b × Bytes b) z (g .packets p (en .1));
     },
   )
   added (opening after named fresh) en = (_, refl, quiet _ refl refl)

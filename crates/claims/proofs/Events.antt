@@ -1,25 +1,28 @@
 -- What the contracts promise of a call is what the call does in the system over bytes.
-use Prim.Native.Nat.{ℕ}
+use Prim.Native.Nat.{ℕ, _≤_}
 use mathlib.Core.Path.{_≡_, refl, sym, ap, _∙_, subst, subst₂}
 use mathlib.Core.List.{List}
 use mathlib.Core.Bool.{Bool}
+use mathlib.Core.Logic.{inl, inr}
+use native.Mathlib.Omega.{arith}
 use lib.Dec.{eqb}
 use borrow.Author.Tests.{ne-eqb, eqb-true, eqb-false}
-use Rattle.wire.specs.Numbers.{Out, refuse, ok, numberOf, left, pick}
+use Rattle.wire.specs.Numbers.{Out, refuse, ok, numberOf, left, pick, Applies}
 use Rattle.wire.specs.Packet.{sentIn}
-use Rattle.wire.proofs.Numbers.{pick-true, pick-false, pick-case, past, ok-inj}
-use Rattle.store.specs.Table.{blankBytes, blankCall, blankRows, BlankGives}
-use Rattle.store.proofs.Blank.{blank-judged}
+use Rattle.wire.proofs.Numbers.{pick-true, pick-false, pick-case, past, ok-inj, judged-done}
+use Rattle.store.specs.Table.{mostSlots, blankBytes, blankCall, blankRows, BlankGives}
+use Rattle.store.proofs.Blank.{blank-judged, length-blank}
 use Rattle.steps.specs.declared.Chain.{Chain}
 use Rattle.steps.specs.declared.Outcome.{Outcome}
 use Rattle.steps.specs.Chain.{startChain, startCall, startRows}
 use Rattle.steps.specs.Node.{NodeGives}
 use Rattle.steps.specs.Relay.{Way, node, client, outcomeOf, outcomeNumber, packetSent, relayCall, RelayGives}
-use Rattle.steps.specs.Control.{ChainGives, FenceGives, CopyGives, EnterGives, openCall, openRows, activateCall, cancelCall, removeCall}
+use Rattle.steps.specs.Control.{ChainGives, FenceGives, CopyGives, EnterGives, openStep, openCall, openRows, activateCall, cancelCall, removeCall}
 use Rattle.steps.proofs.ChainRules.{start-judged}
 use Rattle.steps.proofs.Control.{open-judged}
+use Rattle.steps.proofs.ControlViews.{on-record, open-view}
 use Rattle.steps.proofs.NodeGives.{done-at-0}
-use Rattle.claims.specs.Bytes.{EventB, asking, relaying, stepping, opening, fencing, copying, activating, cancelling, removing, entering, halting, StateB, afterRelay, afterNode, afterControl, afterControlAt, execB, ReachB, startB, stepB}
+use Rattle.claims.specs.Bytes.{EventB, asking, relaying, stepping, opening, fencing, copying, activating, cancelling, removing, entering, halting, StateB, afterRelay, afterNode, afterControl, afterControlAt, execB, EnabledB, ReachB, startB, stepB}
 use Rattle.claims.specs.Events.{StartEvent, BlankEvent, NodeEvent, RelayEvent, ControlEvent, OpenEvent, FenceEvent, EnterEvent, CopyEvent}
 use Rattle.claims.specs.Caller.{Caller, begins, asks, relays, steps, opens, fences, copies, activates, cancels, removes, enters, halts}
 use Rattle.claims.proofs.Images.{refused}
@@ -31,7 +34,7 @@ node-event {t} {p} {out} {n} {t′} {out′} g = record {
 }
 
 -- the number of the outcome is the number of the call
-outcome-number : (o : Out Way) → outcomeNumber (outcomeOf o) ≡ numberOf o
+pub outcome-number : (o : Out Way) → outcomeNumber (outcomeOf o) ≡ numberOf o
 outcome-number (refuse n) = refl
 outcome-number (ok (node j q)) = refl
 outcome-number (ok (client q)) = refl
@@ -154,3 +157,68 @@ caller-reaches (cancels {s = s} c n r′ g) = subst ReachB (cancel-event g .even
 caller-reaches (removes {s = s} c id en n r′ g) = subst ReachB (remove-event g .event s refl) (stepB (caller-reaches c) (removing id) en)
 caller-reaches (enters {s = s} c j id key en n t′ g) = subst ReachB (enter-event g .event s j refl refl) (stepB (caller-reaches c) (entering j id key) en)
 caller-reaches (halts c j) = stepB (caller-reaches c) (halting j) tt
+
+-- ---- and every run of that system is such a caller's: each call can give what its promise says
+
+-- a blank table, made of one of its size
+pub blank-gives : (id count : ℕ) → (id ≡ 0 → ⊥) → (count ≡ 0 → ⊥) → count ≤ mostSlots → BlankGives (blankBytes id count) id count 0 (blankBytes id count)
+unfolding blankCall
+blank-gives id count some counts few = record { number = ap numberOf (sym is); table = ap (left (blankBytes id count) (λ b. b)) (sym is) }
+  where
+    none : (n : ℕ) → Applies (blankRows (blankBytes id count) id count) n → ⊥
+    none n (inl (e, inl z)) = some z
+    none n (inl (e, inr (inl z))) = counts z
+    none n (inl (e, inr (inr (inl z)))) = omega arith
+    none n (inl (e, inr (inr (inr z)))) = z (length-blank id count)
+
+    is : blankCall (blankBytes id count) id count ≡ ok (blankBytes id count)
+    is =
+        let (b, e) = judged-done (blankRows (blankBytes id count) id count) (blankCall (blankBytes id count) id count) (blank-judged (blankBytes id count) id count) .1 none in
+        e ∙ sym (past _ _ _ _ e .1)
+
+-- the table that the caller makes after an open that is done
+open-blank : (r : Chain) (after : Bool) (named fresh : ℕ) (r′ : Chain) → openCall r after named fresh ≡ ok r′ → BlankGives (blankBytes fresh (r .count)) fresh (r .count) 0 (blankBytes fresh (r .count))
+unfolding openCall
+open-blank r after named fresh r′ e =
+    let (rules, step) = on-record r (openStep r after named fresh) r′ e in
+    let above = open-view r after named fresh r′ rules step .above in
+    let counts = rules .countSome in
+    blank-gives fresh (r .count) (λ n. omega arith) (λ n. omega arith) (rules .countFew)
+
+relay-gives : (r : Chain) (p out : List ℕ) → RelayGives r p out (outcomeOf (relayCall r p out)) (left out (λ w. sentIn out (packetSent w)) (relayCall r p out))
+relay-gives r p out = record { outcome = refl; outlet = refl }
+
+-- open stores what the caller makes of the new node's table: a blank one, or nothing else after a refusal
+abbrev pub openTable : StateB → ℕ → Out Chain → List ℕ
+openTable s fresh o = left (s .table fresh) (λ r. blankBytes fresh (s .chain .count)) o
+
+pub open-made : (s : StateB) (after : Bool) (named fresh : ℕ) (o : Out Chain) → openCall (s .chain) after named fresh ≡ o → numberOf o ≡ 0
+    → BlankGives (blankBytes fresh (s .chain .count)) fresh (s .chain .count) 0 (openTable s fresh o)
+open-made s after named fresh (refuse n) e z = absurd (refused (openRows (s .chain) after named fresh) _ n (open-judged (s .chain) after named fresh) e z)
+open-made s after named fresh (ok r) e z = open-blank (s .chain) after named fresh r e
+
+pub open-kept : (s : StateB) (fresh : ℕ) (o : Out Chain) → (numberOf o ≡ 0 → ⊥) → openTable s fresh o ≡ s .table fresh
+open-kept s fresh (refuse n) z = refl
+open-kept s fresh (ok r) z = absurd (z refl)
+
+-- an event that may happen is such a call
+module _ {s : StateB} (c : Caller s) where
+  call : (e : EventB) → EnabledB e s → Caller (execB e s)
+  unfolding execB
+  call (asking p out) en = let g = relay-gives (s .chain) p out in subst Caller (sym (relay-event g .asks s refl)) (asks c p out en _ _ g)
+  call (relaying p out) en = let g = relay-gives (s .chain) p out in subst Caller (sym (relay-event g .relays s refl)) (relays c p out en _ _ g)
+  call (stepping j p out) en = steps c j p out en _ _ _ (record { number = refl; table = refl; outlet = refl })
+  call (opening after named fresh) en =
+      let o = openCall (s .chain) after named fresh in
+      opens c after named fresh en _ _ (record { number = refl; chain = refl }) (blankBytes fresh (s .chain .count)) _ (open-made s after named fresh o refl) (open-kept s fresh o)
+  call (fencing j) en = fences c j en _ _ _ (record { number = refl; chain = refl; table = refl })
+  call (copying i a b) en = copies c i a b en _ _ _ (record { number = refl; chain = refl; table = refl })
+  call activating en = activates c _ _ (record { number = refl; chain = refl })
+  call cancelling en = cancels c _ _ (record { number = refl; chain = refl })
+  call (removing id) en = removes c id en _ _ (record { number = refl; chain = refl })
+  call (entering j id key) en = enters c j id key en _ _ (record { number = refl; table = refl })
+  call (halting j) en = halts c j
+
+pub reaches-caller : {s : StateB} → ReachB s → Caller s
+reaches-caller (startB z) = begins z
+reaches-caller (stepB r e en) = call (reaches-caller r) e en

@@ -6,7 +6,7 @@ use mathlib.Core.Logic.{_⊎_, ⊎-elim}
 use native.Mathlib.Omega.{arith}
 use lib.ListN.{length, getD}
 use Rattle.wire.specs.Version.{AtMost}
-use Rattle.wire.specs.Packet.{packetOf}
+use Rattle.wire.specs.Packet.{Packet, packetOf}
 use Rattle.wire.specs.declared.Version.{Version}
 use Rattle.store.specs.Table.{Table, tableOf, slotOf, row, freeSlot, countOf}
 use Rattle.store.specs.Held.{Content, versionAt}
@@ -14,24 +14,24 @@ use Rattle.store.proofs.Rows.{getD-slots}
 use Rattle.store.proofs.Rules.{length-table}
 use Rattle.steps.specs.Chain.{members}
 use Rattle.protocol.specs.System.{Event, Entry, Ghost, numbered, acked, shown, ghostsOf, allGhosts, ghosts}
-use Rattle.protocol.specs.Demand.{StandsFor as StandsForD, inHistory as inHistoryD, inSlot as inSlotD, inPacket as inPacketD, Growing, Seen, byRead, byAck, ReadsRise as ReadsRiseD, Demand3}
+use Rattle.protocol.specs.Demand.{StandsFor as StandsForD, inHistory as inHistoryD, inSlot as inSlotD, inPacket as inPacketD, Growing, HoldsOrLater, Kept as KeptD, Seen, byRead, byAck, ReadsRise as ReadsRiseD, Demand3}
 use Rattle.protocol.proofs.Trace.{acked-trace, shown-trace, numbered-trace}
 use Rattle.protocol.proofs.Main.{demand, getD-mem}
 use Rattle.claims.specs.Bytes.{IsNode, EntryB, StateB, holdsVersion, ReachB}
-use Rattle.claims.specs.Headline.{Acks, Shows, ChainOrder, StandsFor, inHistory, inSlot, inPacket, NumbersRise, AckedHeld, ReadsRise, Demand3B}
+use Rattle.claims.specs.Headline.{Acks, Shows, Numbers, ChainOrder, StandsFor, inHistory, inSlot, inPacket, NumbersRise, AckedHeld, ReadsRise, Demand3B}
 use Rattle.claims.proofs.Decode.{eventsOf, entryAs, traceOf, decode, table-of}
 use Rattle.claims.proofs.Images.{SoundB}
 use Rattle.claims.proofs.Bridge.{bridge, bridge-run}
 use Rattle.claims.proofs.Entries.{EntryGood, entries-good, to-trace}
-use Rattle.claims.proofs.Said.{shows, acks, numbers, shown-ghosts, given-ghosts}
+use Rattle.claims.proofs.Said.{shows, acks, numbers, shown-ghosts, given-ghosts, numbered-both}
 
 -- ---- the history, split at an entry
 
-trace-append : (a b : List EntryB) → traceOf (a ++ b) ≡ traceOf a ++ traceOf b
+pub trace-append : (a b : List EntryB) → traceOf (a ++ b) ≡ traceOf a ++ traceOf b
 trace-append [] b = refl
 trace-append (x ∷ a) b = ap (λ (l : List Entry). map (entryAs x) (eventsOf (x .event)) ++ l) (trace-append a b) ∙ sym (append-assoc (map (entryAs x) (eventsOf (x .event))) (traceOf a) (traceOf b))
 
-ghosts-append : (a b : List Entry) → allGhosts (a ++ b) ≡ allGhosts a ++ allGhosts b
+pub ghosts-append : (a b : List Entry) → allGhosts (a ++ b) ≡ allGhosts a ++ allGhosts b
 ghosts-append [] b = refl
 ghosts-append (x ∷ a) b =
     ap (λ (l : List Ghost). ghostsOf (x .event) (x .made) (x .before) ++ l) (ghosts-append a b)
@@ -74,8 +74,11 @@ member-node {s} g j m =
     some n = omega arith
 
 -- so what a chain node holds is what its decoded table holds
-pub node-holds : {s : StateB} → SoundB s → (k : List ℕ) (j : ℕ) → Mem j (members (s .chain)) → holdsVersion s j k ≡ versionAt k (decode s .table j .slots)
-node-holds {s} g k j m = ap (λ (t : Table). versionAt k (t .slots)) (sym (table-of (s .chain .count) (s .table) j (member-node g j m)))
+pub node-table : {s : StateB} → SoundB s → (j : ℕ) → Mem j (members (s .chain)) → decode s .table j ≡ tableOf (s .table j)
+node-table {s} g j m = table-of (s .chain .count) (s .table) j (member-node g j m)
+
+node-holds : {s : StateB} → SoundB s → (k : List ℕ) (j : ℕ) → Mem j (members (s .chain)) → holdsVersion s j k ≡ versionAt k (decode s .table j .slots)
+node-holds g k j m = ap (λ (t : Table). versionAt k (t .slots)) (sym (node-table g j m))
 
 module _ {s : StateB} (r : ReachB s) (k : List ℕ) where
   sound : SoundB s
@@ -113,6 +116,10 @@ module _ {s : StateB} (r : ReachB s) (k : List ℕ) where
       slot-at t i b = unfold tableOf in getD-slots (countOf t) t i freeSlot b
   stands (inPacket p m ek ev ec h) = inPacketD (packetOf p) (mem-map packetOf m) ek ev ec h
 
+  -- a numbering of the decoded history is in the trace
+  entry-of : {v : Version} {c : Content} → (j : ℕ) × (before : Version) × (origin : Packet) × Mem (numbered k v c j before origin) (ghosts (decode s)) → (x : EntryB) × (j : ℕ) × Mem x (s .trace) × Numbers x j k v c
+  entry-of {v} {c} (j, b, o, m) = let (x, n, i) = numbered-both r k v c j .0 (b, o, m) in (x, j, n, i)
+
   rises : NumbersRise s k
   rises later earlier x y e m i j u v c d hx hy =
       let ax = numbers (at later earlier x e) hx in
@@ -122,11 +129,18 @@ module _ {s : StateB} (r : ReachB s) (k : List ℕ) where
       (append-left (s .origin) (numbered-trace (traceOf earlier) k u d j (y .before) (packetOf (hy .delivered)) .1 (_, to-trace earlier m (ay .seen), ay .holds)))
 
   held : AckedHeld s k
-  held x v m h t run j n =
-      let a = acks (good x m) h in
-      let (gt, d) = bridge-run sound run in
-      subst (AtMost v) (sym (node-holds gt k j n))
-      (decoded .ackedHeld v (packetOf (h .packet)) (append-left (s .origin) (acked-trace (traceOf (s .trace)) k v (packetOf (h .packet)) .1 (_, to-trace (s .trace) m (a .seen), a .holds))) (decode t) d j n)
+  held x v m h = record {
+    content = kept .content;
+    given = entry-of (kept .given);
+    held = λ t run j n.
+        let (gt, d) = bridge-run sound run in
+        subst (HoldsOrLater k v (kept .content)) (node-table gt j n) (kept .held (decode t) d j n);
+  }
+    where
+      kept : KeptD (decode s) k v
+      kept =
+          let a = acks (good x m) h in
+          decoded .ackedHeld v (packetOf (h .packet)) (append-left (s .origin) (acked-trace (traceOf (s .trace)) k v (packetOf (h .packet)) .1 (_, to-trace (s .trace) m (a .seen), a .holds)))
 
   reads : ReadsRise s k
   reads later earlier x y e m u v hx hy =
@@ -144,6 +158,7 @@ pub demandB : (k : List ℕ) (s : StateB) → ReachB s → Demand3B s k
 demandB k s r = record {
   order = order r k;
   oneContent = λ v c d h i. decoded r k .oneContent v c d (stands r k h) (stands r k i);
+  allNumbered = λ v c h. entry-of r k (decoded r k .allNumbered v c (stands r k h));
   numbersRise = rises r k;
   ackedHeld = held r k;
   readsRise = reads r k;

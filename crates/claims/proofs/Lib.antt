@@ -8,4 +8,9 @@ pub mod Headline
 pub mod Live
 pub mod Events
 pub mod Facts
+pub mod Back
+pub mod Exports
+pub mod ExportRuns
 pub mod Whole
+pub mod Inhabited
+pub mod Shut

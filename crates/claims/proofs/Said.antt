@@ -105,11 +105,11 @@ acked-ghosts z {k} {v} {q} h = ⊎-elim (at fromClient (λ p m. refl)) (at atRel
 -- ---- and back
 
 module _ {x : EntryB} (g : EntryGood x) {d : Event} (e : eventsOf (x .event) ≡ d ∷ []) {k : List ℕ} {v : Version} where
-  shows-back : {q : Packet} → ShowsD (entryAs x d) k v q → Shows x k v
+  shows-back : {q : Packet} → ShowsD (entryAs x d) k v q → (h : Shows x k v) × (packetOf (h .packet) ≡ q)
   unfolding packetOf
   shows-back {q} h = go (source (x .event) d e)
     where
-      go : Source (x .event) d → Shows x k v
+      go : Source (x .event) d → (h : Shows x k v) × (packetOf (h .packet) ≡ q)
       go (asked p out i f) = absurd (let w = h .event in let z : _≡_ {A = ℕ} 0 1 = cc in omega arith)
       go (relayed p out i f) = absurd (let w = h .event in let z : _≡_ {A = ℕ} 0 1 = cc in omega arith)
       go (stepped j p out i f) =
@@ -117,71 +117,77 @@ module _ {x : EntryB} (g : EntryGood x) {d : Event} (e : eventsOf (x .event) ≡
           let w = h .event in
           let z : packetOf p ≡ h .delivered = cc in
           let kept = g .kept j p out b i m in
-          let op : headOf b .op ≡ opRead = kept .op ∙ (ap (λ (r : Packet). r .head .op) z ∙ h .reads) in
-          record {
-            node = j;
-            delivered = p;
-            outlet = out;
-            event = i;
-            packet = b;
-            made = m;
-            op = op;
-            answers = kept .answers op;
-            key = ap (λ (r : Packet). r .key) is ∙ h .key;
-            version = ap (λ (r : Packet). r .head .version) is ∙ h .version;
-          }
+          let op : headOf b .op ≡ opRead = kept .op ∙ (ap (λ (r : Packet). r .head .op) z ∙ h .reads) in (
+            record {
+              node = j;
+              delivered = p;
+              outlet = out;
+              event = i;
+              packet = b;
+              made = m;
+              op = op;
+              answers = kept .answers op;
+              key = ap (λ (r : Packet). r .key) is ∙ h .key;
+              version = ap (λ (r : Packet). r .head .version) is ∙ h .version;
+            },
+            is,
+          )
       go (none n) = cons-nil (sym (shown-ghosts (entryAs x d) h) ∙ n _ _)
 
-  acks-back : {q : Packet} → AcksD (entryAs x d) k v q → Acks x k v
+  acks-back : {q : Packet} → AcksD (entryAs x d) k v q → (h : Acks x k v) × (packetOf (h .packet) ≡ q)
   unfolding packetOf
   acks-back {q} h = go (source (x .event) d e)
     where
-      at : (p out : List ℕ) → (x .event ≡ asking p out) ⊎ (x .event ≡ relaying p out) → packetOf p ≡ h .delivered → Acks x k v
+      at : (p out : List ℕ) → (x .event ≡ asking p out) ⊎ (x .event ≡ relaying p out) → packetOf p ≡ h .delivered → (h : Acks x k v) × (packetOf (h .packet) ≡ q)
       at p out i z =
-          let (b, m, is) = made-back g (h .made) in
-          record {
-            delivered = p;
-            outlet = out;
-            event = i;
-            asks = ap (λ (r : Packet). r .head .answer) z ∙ h .asks;
-            packet = b;
-            made = m;
-            answer = ap (λ (r : Packet). r .head .answer) is ∙ h .answer;
-            key = ap (λ (r : Packet). r .key) is ∙ h .key;
-            version = ap (λ (r : Packet). r .head .version) is ∙ h .version;
-          }
+          let (b, m, is) = made-back g (h .made) in (
+            record {
+              delivered = p;
+              outlet = out;
+              event = i;
+              asks = ap (λ (r : Packet). r .head .answer) z ∙ h .asks;
+              packet = b;
+              made = m;
+              answer = ap (λ (r : Packet). r .head .answer) is ∙ h .answer;
+              key = ap (λ (r : Packet). r .key) is ∙ h .key;
+              version = ap (λ (r : Packet). r .head .version) is ∙ h .version;
+            },
+            is,
+          )
 
-      go : Source (x .event) d → Acks x k v
+      go : Source (x .event) d → (h : Acks x k v) × (packetOf (h .packet) ≡ q)
       go (asked p out i f) = at p out (inl i) (⊎-elim (λ (w : d ≡ fromClient (h .delivered)). cc) (λ (w : d ≡ atRelay (h .delivered)). absurd (let z : _≡_ {A = ℕ} 0 1 = cc in omega arith)) (h .event))
       go (relayed p out i f) = at p out (inr i) (⊎-elim (λ (w : d ≡ fromClient (h .delivered)). absurd (let z : _≡_ {A = ℕ} 0 1 = cc in omega arith)) (λ (w : d ≡ atRelay (h .delivered)). cc) (h .event))
       go (stepped j p out i f) =
           ⊎-elim (λ (w : d ≡ fromClient (h .delivered)). absurd (let z : _≡_ {A = ℕ} 0 1 = cc in omega arith)) (λ (w : d ≡ atRelay (h .delivered)). absurd (let z : _≡_ {A = ℕ} 0 1 = cc in omega arith)) (h .event)
       go (none n) = cons-nil (sym (acked-ghosts (entryAs x d) h) ∙ n _ _)
 
-  numbers-back : {c : Content} {j : ℕ} {b : Version} {p : Packet} → Gives (entryAs x d) k v c j b p → Numbers x j k v c
+  numbers-back : {c : Content} {j : ℕ} {b : Version} {p : Packet} → Gives (entryAs x d) k v c j b p → (h : Numbers x j k v c) × (packetOf (h .delivered) ≡ p)
   unfolding packetOf
   numbers-back {c} {j} {p = p′} h = go (source (x .event) d e)
     where
-      go : Source (x .event) d → Numbers x j k v c
+      go : Source (x .event) d → (h : Numbers x j k v c) × (packetOf (h .delivered) ≡ p′)
       go (asked p out i f) = absurd (let w = h .event in let z : _≡_ {A = ℕ} 0 1 = cc in omega arith)
       go (relayed p out i f) = absurd (let w = h .event in let z : _≡_ {A = ℕ} 0 1 = cc in omega arith)
       go (stepped j′ p out i f) =
           let (q, m, is) = made-back g (h .made) in
           let w = h .event in
           let z : packetOf p ≡ p′ = cc in
-          let n : j′ ≡ j = cc in
-          record {
-            delivered = p;
-            outlet = out;
-            event = i ∙ ap (λ (n : ℕ). stepping n p out) n;
-            unnumbered = subst Unnumbered (sym z) (h .unnumbered);
-            packet = q;
-            made = m;
-            asks = ap (λ (r : Packet). r .head .answer) is ∙ h .asks;
-            key = ap (λ (r : Packet). r .key) is ∙ h .key;
-            version = ap (λ (r : Packet). r .head .version) is ∙ h .version;
-            content = ap carried is ∙ h .content;
-          }
+          let n : j′ ≡ j = cc in (
+            record {
+              delivered = p;
+              outlet = out;
+              event = i ∙ ap (λ (n : ℕ). stepping n p out) n;
+              unnumbered = subst Unnumbered (sym z) (h .unnumbered);
+              packet = q;
+              made = m;
+              asks = ap (λ (r : Packet). r .head .answer) is ∙ h .asks;
+              key = ap (λ (r : Packet). r .key) is ∙ h .key;
+              version = ap (λ (r : Packet). r .head .version) is ∙ h .version;
+              content = ap carried is ∙ h .content;
+            },
+            z,
+          )
       go (none n) = cons-nil (sym (given-ghosts (entryAs x d) h) ∙ n _ _)
 
 -- ---- the ghosts and the trace, both ways
@@ -190,18 +196,31 @@ origin-none : {d : State} → Reach d → d .origin ≡ []
 origin-none (start z) = z .unwritten
 origin-none (step {s = d} r e en) = keeps-origin e d ∙ origin-none r
 
+-- of a trace, or a part of one
+module _ (tr : List EntryB) (good : (x : EntryB) → Mem x tr → EntryGood x) where
+  -- an entry of the decoded trace is one of the trace
+  back : {P : EntryB → Type 0} (Q : Entry → Type 0) → ((x : EntryB) (d : Event) → EntryGood x → eventsOf (x .event) ≡ d ∷ [] → Q (entryAs x d) → P x)
+      → (z : Entry) × Mem z (traceOf tr) × Q z → (x : EntryB) × Mem x tr × P x
+  back Q f (z, m, h) = let c = from-trace tr z m in (c .entry, c .there, f (c .entry) (c .event) (good (c .entry) (c .there)) (c .seen) (subst Q (c .is) h))
+
+  shown-back : (k : List ℕ) (v : Version) (q : Packet) → Mem (shown k v q) (allGhosts (traceOf tr)) → (x : EntryB) × Mem x tr × ((h : Shows x k v) × (packetOf (h .packet) ≡ q))
+  shown-back k v q m = back (λ z. ShowsD z k v q) (λ x d g e i. shows-back g e i) (shown-trace (traceOf tr) k v q .0 m)
+
+  pub acked-back : (k : List ℕ) (v : Version) (q : Packet) → Mem (acked k v q) (allGhosts (traceOf tr)) → (x : EntryB) × Mem x tr × ((h : Acks x k v) × (packetOf (h .packet) ≡ q))
+  acked-back k v q m = back (λ z. AcksD z k v q) (λ x d g e i. acks-back g e i) (acked-trace (traceOf tr) k v q .0 m)
+
+  pub numbered-back : (k : List ℕ) (v : Version) (c : Content) (j : ℕ) (b : Version) (p : Packet) → Mem (numbered k v c j b p) (allGhosts (traceOf tr))
+      → (x : EntryB) × Mem x tr × ((h : Numbers x j k v c) × (packetOf (h .delivered) ≡ p))
+  numbered-back k v c j b p m = back (λ z. Gives z k v c j b p) (λ x d g e i. numbers-back g e i) (numbered-trace (traceOf tr) k v c j b p .0 m)
+
+-- of the whole trace
 module _ {s : StateB} (r : ReachB s) where
   pub history : ghosts (decode s) ≡ allGhosts (traceOf (s .trace))
   history = ap (λ (l : List Ghost). allGhosts (traceOf (s .trace)) ++ l) (origin-none (bridge r .1)) ∙ append-nil (allGhosts (traceOf (s .trace)))
 
-  -- an entry of the decoded trace is one of the trace
-  back : {P : EntryB → Type 0} (Q : Entry → Type 0) → ((x : EntryB) (d : Event) → EntryGood x → eventsOf (x .event) ≡ d ∷ [] → Q (entryAs x d) → P x)
-      → (z : Entry) × Mem z (traceOf (s .trace)) × Q z → (x : EntryB) × Mem x (s .trace) × P x
-  back Q f (z, m, h) = let c = from-trace (s .trace) z m in (c .entry, c .there, f (c .entry) (c .event) (entries-good r (c .entry) (c .there)) (c .seen) (subst Q (c .is) h))
-
   pub shown-both : (k : List ℕ) (v : Version) → ((q : Packet) × Mem (shown k v q) (ghosts (decode s))) ↔ ((x : EntryB) × Mem x (s .trace) × Shows x k v)
   shown-both k v = (
-    λ h. back (λ z. ShowsD z k v (h .0)) (λ x d g e i. shows-back g e i) (shown-trace (traceOf (s .trace)) k v (h .0) .0 (subst (Mem _) history (h .1))),
+    λ h. let (x, m, i) = shown-back (s .trace) (entries-good r) k v (h .0) (subst (Mem _) history (h .1)) in (x, m, i .0),
     λ h.
         let a = shows (entries-good r (h .0) (h .1)) (h .2) in
         (packetOf (h .2 .packet), subst (Mem _) (sym history) (shown-trace (traceOf (s .trace)) k v _ .1 (_, to-trace (s .trace) (h .1) (a .seen), a .holds))),
@@ -209,7 +228,7 @@ module _ {s : StateB} (r : ReachB s) where
 
   pub acked-both : (k : List ℕ) (v : Version) → ((q : Packet) × Mem (acked k v q) (ghosts (decode s))) ↔ ((x : EntryB) × Mem x (s .trace) × Acks x k v)
   acked-both k v = (
-    λ h. back (λ z. AcksD z k v (h .0)) (λ x d g e i. acks-back g e i) (acked-trace (traceOf (s .trace)) k v (h .0) .0 (subst (Mem _) history (h .1))),
+    λ h. let (x, m, i) = acked-back (s .trace) (entries-good r) k v (h .0) (subst (Mem _) history (h .1)) in (x, m, i .0),
     λ h.
         let a = acks (entries-good r (h .0) (h .1)) (h .2) in
         (packetOf (h .2 .packet), subst (Mem _) (sym history) (acked-trace (traceOf (s .trace)) k v _ .1 (_, to-trace (s .trace) (h .1) (a .seen), a .holds))),
@@ -218,7 +237,7 @@ module _ {s : StateB} (r : ReachB s) where
   pub numbered-both : (k : List ℕ) (v : Version) (c : Content) (j : ℕ)
       → ((b : Version) × (p : Packet) × Mem (numbered k v c j b p) (ghosts (decode s))) ↔ ((x : EntryB) × Mem x (s .trace) × Numbers x j k v c)
   numbered-both k v c j = (
-    λ h. back (λ z. Gives z k v c j (h .0) (h .1)) (λ x d g e i. numbers-back g e i) (numbered-trace (traceOf (s .trace)) k v c j (h .0) (h .1) .0 (subst (Mem _) history (h .2))),
+    λ h. let (x, m, i) = numbered-back (s .trace) (entries-good r) k v c j (h .0) (h .1) (subst (Mem _) history (h .2)) in (x, m, i .0),
     λ h.
         let a = numbers (entries-good r (h .0) (h .1)) (h .2) in
         (h .0 .before, packetOf (h .2 .delivered), subst (Mem _) (sym history) (numbered-trace (traceOf (s .trace)) k v c j _ _ .1 (_, to-trace (s .trace) (h .1) (a .seen), a .holds))),

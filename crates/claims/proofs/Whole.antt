@@ -6,8 +6,9 @@ use mathlib.Core.Bool.{Bool, true}
 use mathlib.Core.List.{List, List·Memᴰ as Mem}
 use mathlib.Core.Logic.{_↔_}
 use lib.ListN.{length}
-use Rattle.wire.specs.Numbers.{Judged, Out}
-use Rattle.wire.specs.Packet.{Packet, keyOf, outletSize}
+use Rattle.wire.specs.Numbers.{Judged, Out, ok}
+use Rattle.wire.specs.Version.{zeroVersion}
+use Rattle.wire.specs.Packet.{Packet, bytesOf, keyOf, outletSize}
 use Rattle.wire.specs.declared.Version.{Version}
 use Rattle.store.specs.Table.{blankCall, blankRows, BlankGives}
 use Rattle.store.specs.Held.{Content}
@@ -49,19 +50,49 @@ use Rattle.chain.proofs.start.Statement.{statement as start-promise}
 use Rattle.chain.proofs.start.Met.{met as start-met}
 use Rattle.table.proofs.blank.Statement.{statement as blank-promise}
 use Rattle.table.proofs.blank.Met.{met as blank-met}
+use Rattle.register.specs.Boundary.{Leaves}
+use Rattle.register.proofs.Once.{once}
+use Rattle.register.proofs.register_node_step.Statement.{statement as register-node-step-promise}
+use Rattle.register.proofs.register_node_step.Met.{met as register-node-step-met}
+use Rattle.register.proofs.register_relay_step.Statement.{statement as register-relay-step-promise}
+use Rattle.register.proofs.register_relay_step.Met.{met as register-relay-step-met}
+use Rattle.register.proofs.register_open.Statement.{statement as register-open-promise}
+use Rattle.register.proofs.register_open.Met.{met as register-open-met}
+use Rattle.register.proofs.register_fence.Statement.{statement as register-fence-promise}
+use Rattle.register.proofs.register_fence.Met.{met as register-fence-met}
+use Rattle.register.proofs.register_copy.Statement.{statement as register-copy-promise}
+use Rattle.register.proofs.register_copy.Met.{met as register-copy-met}
+use Rattle.register.proofs.register_activate.Statement.{statement as register-activate-promise}
+use Rattle.register.proofs.register_activate.Met.{met as register-activate-met}
+use Rattle.register.proofs.register_cancel.Statement.{statement as register-cancel-promise}
+use Rattle.register.proofs.register_cancel.Met.{met as register-cancel-met}
+use Rattle.register.proofs.register_remove.Statement.{statement as register-remove-promise}
+use Rattle.register.proofs.register_remove.Met.{met as register-remove-met}
+use Rattle.register.proofs.register_enter.Statement.{statement as register-enter-promise}
+use Rattle.register.proofs.register_enter.Met.{met as register-enter-met}
+use Rattle.register.proofs.register_start.Statement.{statement as register-start-promise}
+use Rattle.register.proofs.register_start.Met.{met as register-start-met}
+use Rattle.register.proofs.register_blank.Statement.{statement as register-blank-promise}
+use Rattle.register.proofs.register_blank.Met.{met as register-blank-met}
+use Rattle.numbers.specs.Record.{recordOf}
 use Rattle.protocol.specs.System.{numbered, acked, shown, ghosts, Reach, Run}
+use Rattle.protocol.specs.Runs.{writeA, benchStart, benchEvents, benchOutcomes, incidentStart, incidentEvents, incidentOutcomes, twoStart, headEvents, headOutcomes, tailEvents, tailOutcomes}
 use Rattle.claims.specs.Bytes.{activating as activates, cancelling as cancels, removing as removes, EntryB, StateB, ReachB, RunB}
 use Rattle.claims.specs.Events.{BlankEvent, NodeEvent, RelayEvent, ControlEvent, OpenEvent, FenceEvent, CopyEvent, EnterEvent}
 use Rattle.claims.specs.Caller.{Caller}
-use Rattle.claims.specs.Headline.{Acks, Shows, Numbers, ChainOrder, OneContent, NumbersRise, AckedHeld, ReadsRise, ClientWrite, Ready, AcknowledgedB}
+use Rattle.claims.specs.Exports.{ExportCaller}
+use Rattle.claims.specs.Headline.{Acks, Shows, Numbers, ChainOrder, OneContent, AllNumbered, NumbersRise, AckedHeld, ReadsRise, Demand3B, ClientWrite, Ready, AcknowledgedB}
 use Rattle.claims.proofs.Decode.{decode}
 use Rattle.claims.proofs.Images.{SoundB}
 use Rattle.claims.proofs.Bridge.{bridge, bridge-run}
 use Rattle.claims.proofs.Said.{numbered-both, acked-both, shown-both}
-use Rattle.claims.proofs.Events.{node-event, relay-event, open-event, fence-event, copy-event, activate-event, cancel-event, remove-event, enter-event, blank-event, caller-reaches}
+use Rattle.claims.proofs.Events.{node-event, relay-event, open-event, fence-event, copy-event, activate-event, cancel-event, remove-event, enter-event, blank-event, caller-reaches, reaches-caller}
+use Rattle.claims.proofs.Back.{Happens, bench-bytes, incident-bytes, head-bytes, tail-bytes, Acknowledges, bench-acknowledges}
 use Rattle.claims.proofs.Headline.{demandB}
 use Rattle.claims.proofs.Live.{acknowledgedB}
 use Rattle.claims.proofs.Facts.{Rules, rules-kept}
+use Rattle.claims.proofs.Exports.{export-caller-is}
+use Rattle.claims.proofs.ExportRuns.{reaches-exports, runs-exports}
 use Rattle.claims.proofs.stepping.Statement.{statement as stepping-promise}
 use Rattle.claims.proofs.stepping.Met.{met as stepping-met}
 use Rattle.claims.proofs.relaying.Statement.{statement as relaying-promise}
@@ -260,10 +291,10 @@ blank-call = blanking-met
 pub blank-is : {t : List ℕ} {id count n : ℕ} {t′ : List ℕ} → BlankGives t id count n t′ → BlankEvent id count n t′
 blank-is = blank-event
 
--- ---- 5. A caller that starts as document 01 says and stores what each call leaves is in the system over bytes
+-- ---- 5. A caller that starts as document 01 says and stores what each call leaves is in the system over bytes, and every run of that system is such a caller's
 
-pub caller-is : {s : StateB} → Caller s → ReachB s
-caller-is = caller-reaches
+pub caller-is : {s : StateB} → Caller s ↔ ReachB s
+caller-is = (caller-reaches, reaches-caller)
 
 -- ---- 6. The bridge: a reachable state is sound, the decoded system reaches its image, and runs are runs; trace and ghosts say the same
 
@@ -293,11 +324,15 @@ chain-order k s c = demandB k s (caller-reaches c) .order
 pub one-content : (k : List ℕ) (s : StateB) → Caller s → OneContent s k
 one-content k s c = demandB k s (caller-reaches c) .oneContent
 
+-- and nothing stands anywhere but what a node gave a number
+pub all-numbered : (k : List ℕ) (s : StateB) → Caller s → AllNumbered s k
+all-numbered k s c = demandB k s (caller-reaches c) .allNumbered
+
 -- each numbering of a key is higher than every earlier one
 pub numbers-rise : (k : List ℕ) (s : StateB) → Caller s → NumbersRise s k
 numbers-rise k s c = demandB k s (caller-reaches c) .numbersRise
 
--- once a write or delete has been acknowledged, every chain node holds its version or a later one from then on
+-- once a write or delete has been acknowledged, every chain node holds it or a later one from then on
 pub acked-held : (k : List ℕ) (s : StateB) → Caller s → AckedHeld s k
 acked-held k s c = demandB k s (caller-reaches c) .ackedHeld
 
@@ -314,3 +349,96 @@ write-acknowledged s p c = acknowledgedB s p (caller-reaches c)
 
 pub rules : (s : StateB) → Caller s → Rules s
 rules s c = rules-kept s (caller-reaches c)
+
+-- ---- 10. Runs that exist: such callers there are, and states from which a write is acknowledged
+
+-- document 01's bench example
+pub bench : Happens benchStart benchEvents benchOutcomes
+bench = bench-bytes
+
+-- a node is replaced while a packet to its neighbour is on the wire
+pub incident : Happens incidentStart incidentEvents incidentOutcomes
+incident = incident-bytes
+
+-- a first node replaced, and a last node
+pub head-replaced : Happens twoStart headEvents headOutcomes
+head-replaced = head-bytes
+
+pub tail-replaced : Happens twoStart tailEvents tailOutcomes
+tail-replaced = tail-bytes
+
+-- the bench example's write, when its keys are entered: the premises of 8 are met
+pub bench-written : Acknowledges (bytesOf (writeA 0 0 0 zeroVersion))
+bench-written = bench-acknowledges
+
+-- ---- 11. The C exports: each keeps its promise, and a caller that stores what they leave is a caller of 5
+
+-- register_node_step
+pub register-node-step-code : {M : Type 1} → register-node-step-promise M
+register-node-step-code = register-node-step-met
+
+-- register_relay_step
+pub register-relay-step-code : {M : Type 1} → register-relay-step-promise M
+register-relay-step-code = register-relay-step-met
+
+-- register_open
+pub register-open-code : {M : Type 1} → register-open-promise M
+register-open-code = register-open-met
+
+-- register_fence
+pub register-fence-code : {M : Type 1} → register-fence-promise M
+register-fence-code = register-fence-met
+
+-- register_copy
+pub register-copy-code : {M : Type 1} → register-copy-promise M
+register-copy-code = register-copy-met
+
+-- register_activate
+pub register-activate-code : {M : Type 1} → register-activate-promise M
+register-activate-code = register-activate-met
+
+-- register_cancel
+pub register-cancel-code : {M : Type 1} → register-cancel-promise M
+register-cancel-code = register-cancel-met
+
+-- register_remove
+pub register-remove-code : {M : Type 1} → register-remove-promise M
+register-remove-code = register-remove-met
+
+-- register_enter
+pub register-enter-code : {M : Type 1} → register-enter-promise M
+register-enter-code = register-enter-met
+
+-- register_start
+pub register-start-code : {M : Type 1} → register-start-promise M
+register-start-code = register-start-met
+
+-- register_blank
+pub register-blank-code : {M : Type 1} → register-blank-promise M
+register-blank-code = register-blank-met
+
+-- its promise determines what it leaves
+pub exports-determined : {A S : Type 0} {code : Out A → ℕ} {make : A → S} {o : Out A} {m n : ℕ} {s s₁ s₂ : S} → Leaves code make o m s s₁ → Leaves code make o n s s₂ → (m ≡ n) × (s₁ ≡ s₂)
+exports-determined = once
+
+-- such a caller's numbers stand for the record
+pub exports-are : {l : List ℕ} {s : StateB} → ExportCaller l s → Caller s × (recordOf l ≡ ok (s .chain))
+exports-are = export-caller-is
+
+-- such callers there are: every run of 5 is one of the exports, document 01's bench example among them
+pub exports-run : {s : StateB} → Caller s → (l : List ℕ) × ExportCaller l s
+exports-run c = reaches-exports (caller-reaches c)
+
+pub exports-bench : (l : List ℕ) × ExportCaller l (bench .state)
+exports-bench = exports-run (bench .called)
+
+pub exports-go-on : {l : List ℕ} {s t : StateB} → ExportCaller l s → RunB s t → (l′ : List ℕ) × ExportCaller l′ t
+exports-go-on = runs-exports
+
+-- demand 3
+pub exports-demand : (k l : List ℕ) (s : StateB) → ExportCaller l s → Demand3B s k
+exports-demand k l s x = demandB k s (caller-reaches (exports-are x .0))
+
+-- the acknowledged write
+pub exports-acknowledge : (l : List ℕ) (s : StateB) (p : List ℕ) → ExportCaller l s → ClientWrite p → Ready s (keyOf p) → (out : List ℕ) → outletSize ≤ length out → AcknowledgedB s p out
+exports-acknowledge l s p x = write-acknowledged s p (exports-are x .0)

@@ -1,5 +1,5 @@
 -- Demand 3 and the acknowledged write, of the system over bytes: what is proved of every reachable state and every run.
-use Prim.Native.Nat.{ℕ, zero, suc, _<_, _≤_}
+use Prim.Native.Nat.{ℕ, _+_, _<_, _≤_}
 use mathlib.Core.Path.{_≡_}
 use mathlib.Core.List.{List, [], _∷_, _++_, List·Memᴰ as Mem}
 use mathlib.Core.Bool.{false}
@@ -13,8 +13,12 @@ use Rattle.store.specs.Table.{Slot, tableOf, slotOf, row, countOf}
 use Rattle.store.specs.Held.{holds, held, Content, nothing, contentOf}
 use Rattle.steps.specs.declared.Change.the-variants.{Still}
 use Rattle.steps.specs.Chain.{members, firstOf}
+use Rattle.steps.specs.declared.Outcome.{Outcome}
+use Rattle.steps.specs.declared.Outcome.the-variants.{ToNode, ToClient}
 use Rattle.steps.specs.Node.{Unnumbered}
+use Rattle.steps.specs.Relay.{outcomeOf, relayCall}
 use Rattle.protocol.specs.System.{carried}
+use Rattle.protocol.specs.Demand.{HoldsOrLater, wanted, ackOf, HoldsWrite}
 use Rattle.claims.specs.Bytes.{IsNode, asking, relaying, stepping, EntryB, StateB, holdsVersion, execB, EnabledB, RunB}
 
 -- ---- what the trace says
@@ -76,18 +80,26 @@ pub data StandsFor (s : StateB) (k : List ℕ) (v : Version) (c : Content) : Typ
 abbrev pub OneContent : StateB → List ℕ → Type 0
 OneContent s k = (v : Version) (c d : Content) → StandsFor s k v c → StandsFor s k v d → c ≡ d
 
+-- and nothing stands anywhere but what a node gave a number
+abbrev pub AllNumbered : StateB → List ℕ → Type 0
+AllNumbered s k = (v : Version) (c : Content) → StandsFor s k v c → (x : EntryB) × (j : ℕ) × Mem x (s .trace) × Numbers x j k v c
+
 -- the stronger form: each numbering of a key is higher than every earlier one (the trace has the newest first)
 abbrev pub NumbersRise : StateB → List ℕ → Type 0
 NumbersRise s k =
     (later earlier : List EntryB) (x y : EntryB) → s .trace ≡ later ++ (x ∷ earlier) → Mem y earlier
     → (i j : ℕ) (u v : Version) (c d : Content) → Numbers x i k v c → Numbers y j k u d → Below u v
 
--- ---- 3: once a write or delete has been acknowledged, every chain node holds its version or a later one from then on
+-- ---- 3: once a write or delete has been acknowledged, every chain node holds it or a later one from then on
+
+-- version v of key k was given to a content, and from then on every chain node holds it with that content, or a later version
+pub record Kept (s : StateB) (k : List ℕ) (v : Version) : Type 0 where
+  pub content : Content
+  pub given : (x : EntryB) × (j : ℕ) × Mem x (s .trace) × Numbers x j k v content
+  pub held : (t : StateB) → RunB s t → (j : ℕ) → Mem j (members (t .chain)) → HoldsOrLater k v content (tableOf (t .table j))
 
 abbrev pub AckedHeld : StateB → List ℕ → Type 0
-AckedHeld s k =
-    (x : EntryB) (v : Version) → Mem x (s .trace) → Acks x k v
-    → (t : StateB) → RunB s t → (j : ℕ) → Mem j (members (t .chain)) → AtMost v (holdsVersion t j k)
+AckedHeld s k = (x : EntryB) (v : Version) → Mem x (s .trace) → Acks x k v → Kept s k v
 
 -- ---- 4: a read answered by a node shows a version no lower than any earlier answered read showed and any earlier acknowledgement carried
 
@@ -101,6 +113,7 @@ ReadsRise s k =
 pub record Demand3B (s : StateB) (k : List ℕ) : Type 0 where
   pub order : ChainOrder s k
   pub oneContent : OneContent s k
+  pub allNumbered : AllNumbered s k
   pub numbersRise : NumbersRise s k
   pub ackedHeld : AckedHeld s k
   pub readsRise : ReadsRise s k
@@ -126,37 +139,49 @@ pub record Ready (s : StateB) (k : List ℕ) : Type 0 where
   pub left : (x : Slot) → held k (tableOf (s .table (firstOf (members (s .chain)))) .slots) ≡ holds x
       → x .version .session ≡ s .chain .session → x .version .sequence .0 < topSequence
 
--- packet p goes to a node, and what the node makes of it to the relay; both may happen, each makes one packet, and then P holds
-pub record Hop (P : StateB → List ℕ → Type 0) (s : StateB) (p out out′ : List ℕ) : Type 0 where
-  pub node : ℕ
-  pub taken : EnabledB (stepping node p out) s
+-- where the relay sends a packet that has these nodes still before it: to the first of them, or to the client
+abbrev pub outcomeAlong : List ℕ → Outcome
+outcomeAlong [] = ToClient
+outcomeAlong (j ∷ l) = ToNode j
+
+-- packet p goes to node j, and what the node makes of it to the relay; both may happen, each makes one packet, the relay sends its own on along the nodes l, and then P holds
+pub record Hop (P : StateB → List ℕ → Type 0) (s : StateB) (j : ℕ) (l p out out′ : List ℕ) : Type 0 where
+  pub taken : EnabledB (stepping j p out) s
   pub between : List ℕ
-  pub stepped : execB (stepping node p out) s .packets ≡ between ∷ s .packets
-  pub handed : EnabledB (relaying between out′) (execB (stepping node p out) s)
+  pub stepped : execB (stepping j p out) s .packets ≡ between ∷ s .packets
+  pub handed : EnabledB (relaying between out′) (execB (stepping j p out) s)
+  pub sent : outcomeOf (relayCall (execB (stepping j p out) s .chain) between out′) ≡ outcomeAlong l
   pub next : List ℕ
-  pub relayed : execB (relaying between out′) (execB (stepping node p out) s) .packets ≡ next ∷ execB (stepping node p out) s .packets
-  pub then : P (execB (relaying between out′) (execB (stepping node p out) s)) next
+  pub relayed : execB (relaying between out′) (execB (stepping j p out) s) .packets ≡ next ∷ execB (stepping j p out) s .packets
+  pub then : P (execB (relaying between out′) (execB (stepping j p out) s)) next
 
--- n node steps, each followed by a relay step, and no other event, whatever outlets of 168 bytes or more are lent; then P holds
-abbrev pub Hops : ℕ → (StateB → List ℕ → Type 0) → StateB → List ℕ → Type 0
-Hops zero P s p = P s p
-Hops (suc n) P s p = (out out′ : List ℕ) → outletSize ≤ length out → outletSize ≤ length out′ → Hop (Hops n P) s p out out′
+-- a node step at each of these nodes, in this order, each followed by a relay step, and no other event, whatever outlets of 168 bytes or more are lent;
+-- nothing is lost, for each node gets what the relay sent it, and the client the last packet; then P holds
+abbrev pub Hops : List ℕ → (StateB → List ℕ → Type 0) → StateB → List ℕ → Type 0
+Hops [] P s p = P s p
+Hops (j ∷ l) P s p = (out out′ : List ℕ) → outletSize ≤ length out → outletSize ≤ length out′ → Hop (Hops l P) s j l p out out′
 
--- the last packet made is answer 4 with that client, request and key, and the version that node j gave
-pub record Answered (j : ℕ) (p : List ℕ) (final : StateB) (last : List ℕ) : Type 0 where
-  pub answer : headOf last .answer ≡ answerWritten
-  pub op : headOf last .op ≡ headOf p .op
-  pub client : headOf last .client ≡ headOf p .client
-  pub request : headOf last .request ≡ headOf p .request
-  pub key : keyOf last ≡ keyOf p
-  pub given : (x : EntryB) × (c : Content) × Mem x (final .trace) × Numbers x j (keyOf p) (headOf last .version) c
-  pub acked : (x : EntryB) × Mem x (final .trace) × Acks x (keyOf p) (headOf last .version)
+-- from state s, client's packet p was acknowledged, of which the relay made packet `first`
+pub record Answered (s : StateB) (p first : List ℕ) (final : StateB) (last : List ℕ) : Type 0 where
+  -- the last packet made is answer 4 to this client, for this request and key, under a version
+  pub version : Version
+  pub answer : packetOf last ≡ ackOf (packetOf p) version
+  -- k node steps and k + 1 relay steps since s: in them the head gave that version to the packet that the relay made, for the client's content, and that answer acknowledged it
+  pub since : List EntryB
+  pub later : final .trace ≡ since ++ s .trace
+  pub steps : length since ≡ length (members (s .chain)) + (length (members (s .chain)) + 1)
+  pub given : (x : EntryB) × Mem x since × (n : Numbers x (firstOf (members (s .chain))) (keyOf p) version (wanted (packetOf p))) × (n .delivered ≡ first)
+  pub acked : (x : EntryB) × Mem x since × (a : Acks x (keyOf p) version) × (a .packet ≡ last)
+  -- every chain node holds it
+  pub chain : final .chain ≡ s .chain
+  pub held : (j : ℕ) → Mem j (members (s .chain)) → HoldsWrite (packetOf p) version (tableOf (final .table j))
 
--- one write is acknowledged after k node steps and k + 1 relay steps
+-- this write is acknowledged after k node steps and k + 1 relay steps
 pub record AcknowledgedB (s : StateB) (p out : List ℕ) : Type 0 where
-  -- the relay sends it to a node
+  -- the relay makes a packet of it and sends it to the first node
   pub enabled : EnabledB (asking p out) s
+  pub sent : outcomeOf (relayCall (s .chain) p out) ≡ outcomeAlong (members (s .chain))
   pub first : List ℕ
   pub relayed : execB (asking p out) s .packets ≡ first ∷ s .packets
-  -- as many node steps as the chain has nodes, each followed by one more relay step
-  pub arrives : Hops (length (members (s .chain))) (Answered (firstOf (members (s .chain))) p) (execB (asking p out) s) first
+  -- a node step at each of the k chain nodes, each followed by one more relay step
+  pub arrives : Hops (members (s .chain)) (Answered s p first) (execB (asking p out) s) first

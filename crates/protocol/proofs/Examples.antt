@@ -1,9 +1,9 @@
--- Computed runs: document 01's bench example, the incident that fences are for, a first node replaced, a last node replaced; each is a run of the system.
+-- Computed runs: document 01's bench example, the incident that fences are for, a first node replaced, a last node replaced, every event; each is a run of the system.
 use Prim.Native.Nat.{ℕ, _<_}
 use mathlib.Core.Path.{_≡_, refl, sym, ap, _∙_, subst}
-use mathlib.Core.Bool.{true, not, false≢true}
+use mathlib.Core.Bool.{Bool, true, false, not, false≢true}
 use mathlib.Core.List.{List, [], _∷_, List·Memᴰ as Mem, List·Memᴰ·head as here, List·Memᴰ·tail as there}
-use mathlib.Core.Logic.{inl, ⊎-elim}
+use mathlib.Core.Logic.{inl, inr, ⊎-elim}
 use native.Mathlib.Omega.{arith}
 use lib.ListN.{length}
 use lib.Dec.{eqb}
@@ -14,9 +14,9 @@ use Rattle.store.proofs.Find.{reflect-eqs}
 use Rattle.steps.proofs.ChainRules.{reflect-chain}
 use Rattle.wire.specs.Numbers.{pick, guard}
 use Rattle.wire.specs.declared.Session.{Session}
-use Rattle.wire.specs.Version.{session, zeroVersion, topSequence, nextSession, nextSequence, nextStamp, newer}
-use Rattle.wire.specs.Packet.{Packet, packet, headOk, packetOk}
-use Rattle.store.specs.Table.{Slot, enteredSlot, has, isFreeSlot, find, lowestFree, blankTable}
+use Rattle.wire.specs.Version.{session, version, zeroVersion, topSequence, nextSession, nextSequence, nextStamp, newer}
+use Rattle.wire.specs.Packet.{Packet, packet, headOk, packetOk, Fit, keySize}
+use Rattle.store.specs.Table.{Slot, slot, enteredSlot, has, isFreeSlot, find, lowestFree, blankTable}
 use Rattle.store.specs.Held.{holds, held}
 use Rattle.steps.specs.Chain.{members, memb, firstOf, lastOf, nextOf, placeOf, insertAt, removeAt, apart, noneAbove, joiningOk, chainOk, largest, startChain}
 use Rattle.steps.specs.Node.{reply, absent, answered, given, versionFor, stored, taken, atSlot, nodeStep}
@@ -24,7 +24,7 @@ use Rattle.steps.specs.Relay.{toNode, toClient, fromClient as clientWay, onward
 use Rattle.steps.specs.Control.{opened, openStep, fenceStep, copyStep, activated, activateStep, cancelStep, removed, removeStep, enterStep}
 use Rattle.protocol.specs.System.{State, Event, fromClient, noPacket, atRelay, atNode, opens, fences, copies, activates, cancels, removes, enters, halts, exec, upd, Enabled, Reach, start, step}
 use Rattle.protocol.specs.Demand.{Demand3, ClientWrite, Ready, Acknowledged}
-use Rattle.protocol.specs.Runs.{theKey, writeA, benchEnters, startState, run, outcomes, samePacket, wasMade, enabled, allowed, benchStart, benchEvents, benchOutcomes, incidentStart, incidentEvents, incidentOutcomes, twoStart, headEvents, headOutcomes, tailEvents, tailOutcomes}
+use Rattle.protocol.specs.Runs.{theKey, parcel, writeA, benchEnters, startState, run, outcomes, samePacket, wasMade, enabled, allowed, benchStart, benchEvents, benchOutcomes, incidentStart, incidentEvents, incidentOutcomes, twoStart, headEvents, headOutcomes, tailEvents, tailOutcomes, everyEvents, everyOutcomes}
 use Rattle.steps.proofs.NodeDone.{holds-inj}
 use Rattle.protocol.proofs.Main.{demand}
 use Rattle.protocol.proofs.Live.{acknowledged}
@@ -51,6 +51,10 @@ head-outcomes = refl
 pub tail-outcomes : outcomes (run tailEvents twoStart .trace) [] ≡ tailOutcomes
 unfolding computing
 tail-outcomes = refl
+
+pub every-outcomes : outcomes (run everyEvents twoStart .trace) [] ≡ everyOutcomes
+unfolding computing
+every-outcomes = refl
 
 -- the chains that they leave
 pub bench-chain : members (run benchEvents benchStart .chain) ≡ 1 ∷ 3 ∷ []
@@ -102,7 +106,7 @@ unfolding wasMade
 was-made p [] e = absurd (false≢true e)
 was-made p (q ∷ l) e = ⊎-elim (λ h. here (same-packet p q h)) (λ h. there (was-made p l h)) (or-true (samePacket p q) (wasMade p l) e)
 
-is-enabled : (e : Event) (s : State) → enabled e s ≡ true → Enabled e s
+pub is-enabled : (e : Event) (s : State) → enabled e s ≡ true → Enabled e s
 unfolding enabled
 is-enabled (fromClient p) s e = (eqb-true _ _ (and-left (eqb (p .head .from) 0) (packetOk p) e), reflect-fit p .0 (and-right (eqb (p .head .from) 0) (packetOk p) e))
 is-enabled noPacket s e = tt
@@ -117,6 +121,16 @@ is-enabled cancels s e = tt
 is-enabled (removes j) s e = e
 is-enabled (enters j id key) s e = eqb-true _ _ e
 is-enabled (halts j) s e = tt
+
+-- what may happen in every state: all but the deliveries of packets that were never made, the steps of halted nodes, and the removal of others
+pub may-happen : (s : State) (side : Bool) (i j a b : ℕ) (p : Packet) (key : List ℕ)
+    → Enabled noPacket s × Enabled (opens side a b) s × Enabled (fences j) s × Enabled (copies i a b) s × Enabled activates s × Enabled cancels s × Enabled (halts j) s
+    × (p .head .from ≡ 0 → Fit p → Enabled (fromClient p) s)
+    × (Mem p (s .packets) → Enabled (atRelay p) s)
+    × (Mem p (s .packets) → s .halted j ≡ false → Enabled (atNode j p) s)
+    × (s .halted j ≡ true → Enabled (removes j) s)
+    × (length key ≡ keySize → Enabled (enters i j key) s)
+may-happen s side i j a b p key = (tt, tt, tt, tt, tt, tt, tt, λ e f. (e, f), λ m. m, λ m h. (m, h), λ h. h, λ e. e)
 
 runs : (l : List Event) (s : State) → allowed l s ≡ true → Reach s → Reach (run l s)
 unfolding allowed run
@@ -139,21 +153,55 @@ starts n places count e = start (record {
 
 -- ---- each is a run of the system
 
-pub bench-reached : Reach (run benchEvents benchStart)
+-- the records at their starts keep the rules
+pub bench-starts : chainOk (benchStart .chain) ≡ true
 unfolding computing
-bench-reached = runs benchEvents benchStart refl (starts _ _ _ refl)
+bench-starts = refl
+
+pub incident-starts : chainOk (incidentStart .chain) ≡ true
+unfolding computing
+incident-starts = refl
+
+pub two-starts : chainOk (twoStart .chain) ≡ true
+unfolding computing
+two-starts = refl
+
+-- each event may happen when its turn comes
+pub enters-allowed : allowed benchEnters benchStart ≡ true
+unfolding computing
+enters-allowed = refl
+
+pub bench-allowed : allowed benchEvents benchStart ≡ true
+unfolding computing
+bench-allowed = refl
+
+pub incident-allowed : allowed incidentEvents incidentStart ≡ true
+unfolding computing
+incident-allowed = refl
+
+pub head-allowed : allowed headEvents twoStart ≡ true
+unfolding computing
+head-allowed = refl
+
+pub tail-allowed : allowed tailEvents twoStart ≡ true
+unfolding computing
+tail-allowed = refl
+
+pub bench-reached : Reach (run benchEvents benchStart)
+bench-reached = runs benchEvents benchStart bench-allowed (starts _ _ _ bench-starts)
 
 pub incident-reached : Reach (run incidentEvents incidentStart)
-unfolding computing
-incident-reached = runs incidentEvents incidentStart refl (starts _ _ _ refl)
+incident-reached = runs incidentEvents incidentStart incident-allowed (starts _ _ _ incident-starts)
 
 pub head-reached : Reach (run headEvents twoStart)
-unfolding computing
-head-reached = runs headEvents twoStart refl (starts _ _ _ refl)
+head-reached = runs headEvents twoStart head-allowed (starts _ _ _ two-starts)
 
 pub tail-reached : Reach (run tailEvents twoStart)
+tail-reached = runs tailEvents twoStart tail-allowed (starts _ _ _ two-starts)
+
+pub every-reached : Reach (run everyEvents twoStart)
 unfolding computing
-tail-reached = runs tailEvents twoStart refl (starts _ _ _ refl)
+every-reached = runs everyEvents twoStart refl (starts _ _ _ refl)
 
 -- ---- so demand 3 holds of each, and the premises of the acknowledged write are met after the keys are entered
 
@@ -161,8 +209,7 @@ pub incident-demand : Demand3 (run incidentEvents incidentStart) theKey
 incident-demand = demand theKey (run incidentEvents incidentStart) incident-reached
 
 pub bench-entered : Reach (run benchEnters benchStart)
-unfolding computing
-bench-entered = runs benchEnters benchStart refl (starts _ _ _ refl)
+bench-entered = runs benchEnters benchStart enters-allowed (starts _ _ _ bench-starts)
 
 pub bench-ready : Ready (run benchEnters benchStart) theKey
 unfolding computing
@@ -180,9 +227,44 @@ bench-ready = record { awake = λ j m. refl; still = refl; known = known; left =
     left : (x : Slot) → holds (enteredSlot theKey) ≡ holds x → x .version .session ≡ session 1 → x .version .sequence .0 < topSequence
     left x h e = absurd (let z = ap (λ (y : Slot). y .version .session .0) (holds-inj h) ∙ ap (λ (y : Session). y .0) e in omega arith)
 
-pub bench-acknowledged : Acknowledged (run benchEnters benchStart) (writeA 0 0 0 zeroVersion)
+pub bench-write : ClientWrite (writeA 0 0 0 zeroVersion)
 unfolding computing
-bench-acknowledged = acknowledged (run benchEnters benchStart) (writeA 0 0 0 zeroVersion) bench-entered write bench-ready
+bench-write = record { fit = reflect-fit (writeA 0 0 0 zeroVersion) .0 refl; query = refl; alters = inl refl; from = refl; to = refl; stamp = refl; version = refl }
+
+pub bench-acknowledged : Acknowledged (run benchEnters benchStart) (writeA 0 0 0 zeroVersion)
+bench-acknowledged = acknowledged (run benchEnters benchStart) (writeA 0 0 0 zeroVersion) bench-entered bench-write bench-ready
+
+-- ---- and again after a first node was replaced and B was written under 3.1: a delete is acknowledged too
+
+abbrev theDelete : Packet
+theDelete = parcel 3 0 0 0 4 0 zeroVersion []
+
+abbrev slotB : Slot
+slotB = slot theKey 2 (version 3 1) (66 ∷ [])
+
+pub head-ready : Ready (run headEvents twoStart) theKey
+unfolding computing
+head-ready = record { awake = awake; still = refl; known = known; left = left }
   where
-    write : ClientWrite (writeA 0 0 0 zeroVersion)
-    write = record { fit = reflect-fit (writeA 0 0 0 zeroVersion) .0 refl; query = refl; alters = inl refl; from = refl; to = refl; stamp = refl; version = refl }
+    awake : (j : ℕ) → Mem j (3 ∷ 2 ∷ []) → run headEvents twoStart .halted j ≡ false
+    awake j (here e) = ap (λ (n : ℕ). run headEvents twoStart .halted n) e
+    awake j (there (here e)) = ap (λ (n : ℕ). run headEvents twoStart .halted n) e
+    awake j (there (there m)) = elim m [ ]
+
+    at : (j i : ℕ) → held theKey (run headEvents twoStart .table i .slots) ≡ holds slotB → j ≡ i → (x : Slot) × (held theKey (run headEvents twoStart .table j .slots) ≡ holds x)
+    at j i h e = (slotB, subst (λ (n : ℕ). held theKey (run headEvents twoStart .table n .slots) ≡ holds slotB) (sym e) h)
+
+    known : (j : ℕ) → Mem j (3 ∷ 2 ∷ []) → (x : Slot) × (held theKey (run headEvents twoStart .table j .slots) ≡ holds x)
+    known j (here e) = at j 3 refl e
+    known j (there (here e)) = at j 2 refl e
+    known j (there (there m)) = elim m [ ]
+
+    left : (x : Slot) → holds slotB ≡ holds x → x .version .session ≡ session 3 → x .version .sequence .0 < topSequence
+    left x h e = let z = ap (λ (y : Slot). y .version .sequence .0) (holds-inj h) in omega arith
+
+pub head-acknowledged : Acknowledged (run headEvents twoStart) theDelete
+unfolding computing
+head-acknowledged = acknowledged (run headEvents twoStart) theDelete head-reached delete head-ready
+  where
+    delete : ClientWrite theDelete
+    delete = record { fit = reflect-fit theDelete .0 refl; query = refl; alters = inr refl; from = refl; to = refl; stamp = refl; version = refl }

@@ -2,7 +2,7 @@
 use Prim.Native.Nat.{ℕ}
 use mathlib.Core.Path.{_≡_, refl, ap, _∙_}
 use mathlib.Core.Bool.{Bool, true, false, _&&_}
-use mathlib.Core.List.{List, [], _∷_}
+use mathlib.Core.List.{List, [], _∷_, List·Memᴰ as Mem, List·Memᴰ·head as here, List·Memᴰ·tail as there}
 use native.Mathlib.Omega.{arith}
 use lib.Dec.{eqb}
 use borrow.Author.Tests.{eq-eqb, ne-eqb}
@@ -10,11 +10,21 @@ use Rattle.wire.specs.Packet.{Packet, query, opRead, answerWritten}
 use Rattle.wire.specs.declared.Version.{Version}
 use Rattle.wire.proofs.Numbers.{pick-true, pick-false, and-both}
 use Rattle.steps.specs.Node.{Numbered, Unnumbered}
-use Rattle.protocol.specs.System.{numbered, acked, shown, carried, nodeGhosts, relayGhosts}
+use Rattle.protocol.specs.System.{Ghost, numbered, acked, shown, carried, nodeGhosts, relayGhosts}
 
 pub and-no : (a : Bool) {b : Bool} → b ≡ false → (a && b) ≡ false
 and-no true e = e
 and-no false e = refl
+
+-- ghosts of different kinds are apart
+abbrev pub kind : Ghost → ℕ
+kind (numbered k v c j b p) = 0
+kind (acked k v p) = 1
+kind (shown k v p) = 2
+
+pub other-kind : {g h : Ghost} {l : List Ghost} → (kind g ≡ kind h → ⊥) → Mem g (h ∷ l) → Mem g l
+other-kind n (here e) = absurd (n (ap kind e))
+other-kind n (there m) = m
 
 -- at a node
 module _ (j : ℕ) (p q : Packet) (l : List Packet) (b : Version) where

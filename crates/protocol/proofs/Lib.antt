@@ -12,3 +12,4 @@ pub mod Facts
 pub mod Slots
 pub mod Live
 pub mod Examples
+pub mod Shut

@@ -2,24 +2,26 @@
 use Prim.Native.Nat.{ℕ, zero, suc, _<_}
 use mathlib.Core.Path.{_≡_, refl, sym, ap, ap₂, _∙_, subst}
 use mathlib.Core.List.{List, [], _∷_, _++_, List·Memᴰ as Mem, List·Memᴰ·head as here, List·Memᴰ·tail as there}
-use mathlib.Core.Logic.{inl, inr}
+use mathlib.Core.Logic.{_⊎_, inl, inr, ⊎-elim}
 use native.Mathlib.Omega.{arith}
 use lib.ListN.{length, getD}
-use Rattle.wire.specs.Version.{zeroVersion, Below}
+use Rattle.wire.specs.Version.{zeroVersion, AtMost, Below}
 use Rattle.wire.specs.Packet.{Packet}
 use Rattle.wire.specs.declared.Version.{Version}
-use Rattle.wire.proofs.Versions.{below-irreflexive}
+use Rattle.wire.proofs.Versions.{below-irreflexive, atmost-cases}
 use Rattle.store.specs.Table.{Table, blankTable}
-use Rattle.store.specs.Held.{Content, heldVersion, versionAt}
+use Rattle.store.specs.Held.{Content, nothing, heldVersion, versionAt, contentAt}
 use Rattle.store.proofs.Find.{held-blank}
 use Rattle.steps.specs.declared.Change.the-variants.{Still}
 use Rattle.steps.specs.declared.Chain.{Chain}
 use Rattle.steps.specs.Chain.{members, startChain}
 use Rattle.steps.proofs.ChainOrder.{Ahead, first, later}
 use Rattle.protocol.specs.System.{State, Event, fromClient, noPacket, atRelay, atNode, opens, fences, copies, activates, cancels, removes, enters, halts, Entry, Ghost, numbered, acked, shown, allGhosts, ghosts, exec, Enabled, Start, Reach, start, step, Run, stay, more}
-use Rattle.protocol.specs.Demand.{StandsFor, inHistory, inSlot, inPacket, Growing, Seen, byAck, ReadsRise, Demand3}
-use Rattle.protocol.specs.Inv.{worldOf, nodeVersion, Logged, logged, SlotGood, TableGood, Inv}
+use Rattle.protocol.specs.Demand.{holdsVersion, StandsFor, inHistory, inSlot, inPacket, Growing, HoldsOrLater, Kept, Seen, byAck, ReadsRise, Demand3}
+use Rattle.protocol.specs.Inv.{worldOf, nodeVersion, Logged, logged, Given, SlotGood, TableGood, Inv}
 use Rattle.protocol.proofs.Prims.{at-most-same, inv-same}
+use Rattle.protocol.proofs.Ghosts.{other-kind}
+use Rattle.protocol.proofs.Packets.{wrote-nothing, gone-nothing, Says, saysNothing, saysValue, saysGone, of-held, held-says}
 use Rattle.protocol.proofs.Node.{pres-node}
 use Rattle.protocol.proofs.Relay.{pres-relay}
 use Rattle.protocol.proofs.Control.{not-opened, blank-good, pres-halt, pres-cancel, pres-fence, pres-copy, pres-open, pres-enter}
@@ -41,6 +43,7 @@ inv-start k s z = record {
     sessions = λ u c h. none h;
     firstHolds = λ u c h. none h;
     growing = subst (Growing k) (sym empty) tt;
+    ackedGiven = λ u p m. nothing (subst (λ (l : List Ghost). Mem (acked k u p) l) empty m);
     seenHeld = λ u h. unseen (subst (Seen k u) empty h);
     readsRise = subst (ReadsRise k) (sym empty) tt;
   };
@@ -122,27 +125,55 @@ once k (numbered k′ u e n w q ∷ l) g (here x) (here y) = cc
 once k (numbered k′ u e n w q ∷ l) {v} {c} {d} {i} {j} {a} {b} {o} {p} g (here x) (there m) = let z : v ≡ u = cc in absurd (below-irreflexive v (subst (Below v) (sym z) (g .0 (cc) v d j b p m)))
 once k (numbered k′ u e n w q ∷ l) {v} {c} {d} {i} {j} {a} {b} {o} {p} g (there m) (here y) = let z : v ≡ u = cc in absurd (below-irreflexive v (subst (Below v) (sym z) (g .0 (cc) v c i a o m)))
 once k (numbered k′ u e n w q ∷ l) g (there m) (there n′) = once k l (g .1) m n′
-once k (acked k′ u q ∷ l) g (here x) n = absurd (let z : _≡_ {A = ℕ} 0 1 = cc in omega arith)
-once k (acked k′ u q ∷ l) g (there m) (here y) = absurd (let z : _≡_ {A = ℕ} 0 1 = cc in omega arith)
-once k (acked k′ u q ∷ l) g (there m) (there n) = once k l g m n
-once k (shown k′ u q ∷ l) g (here x) n = absurd (let z : _≡_ {A = ℕ} 0 1 = cc in omega arith)
-once k (shown k′ u q ∷ l) g (there m) (here y) = absurd (let z : _≡_ {A = ℕ} 0 1 = cc in omega arith)
-once k (shown k′ u q ∷ l) g (there m) (there n) = once k l g m n
+once k (acked k′ u q ∷ l) g m n = once k l g (other-kind (λ z. omega arith) m) (other-kind (λ z. omega arith) n)
+once k (shown k′ u q ∷ l) g m n = once k l g (other-kind (λ z. omega arith) m) (other-kind (λ z. omega arith) n)
 
 logged-once : (k : List ℕ) (l : List Ghost) {v : Version} {c d : Content} → Growing k l → Logged l k v c → Logged l k v d → c ≡ d
 logged-once k l g (logged i a o m) (logged j b p n) = once k l g m n
+
+-- a numbering, and that it stays in the history
+was-logged : {l : List Ghost} {k : List ℕ} {v : Version} {c : Content} → Logged l k v c → (j : ℕ) × (before : Version) × (origin : Packet) × Mem (numbered k v c j before origin) l
+was-logged (logged j b o m) = (j, b, o, m)
+
+run-logged : {s t : State} {k : List ℕ} {v : Version} {c : Content} → Run s t → Logged (ghosts s) k v c → Logged (ghosts t) k v c
+run-logged run (logged j b o m) = logged j b o (run-noted run _ m)
+
+-- what node j holds under a version that was given, or a later one
+held-once : {k : List ℕ} {s : State} {u : Version} {c : Content} → Inv k s → 0 < u .sequence .0 → Logged (ghosts s) k u c → (j : ℕ) → AtMost u (holdsVersion s j k) → HoldsOrLater k u c (s .table j)
+held-once {k} {s} {u} {c} v some l j h = ⊎-elim (λ b. inr b) (λ e. inl (sym e, same e)) (atmost-cases u (holdsVersion s j k) .0 h)
+  where
+    filled : u ≡ holdsVersion s j k → Says (contentAt k (s .table j .slots)) (holdsVersion s j k) → contentAt k (s .table j .slots) ≡ nothing → ⊥
+    filled e (saysNothing n z) q = let w = ap (λ (x : Version). x .sequence .0) (e ∙ z) in omega arith
+    filled e (saysValue x w b hs hq) q = wrote-nothing (sym w ∙ q)
+    filled e (saysGone w hs hq) q = gone-nothing (sym w ∙ q)
+
+    same : u ≡ holdsVersion s j k → contentAt k (s .table j .slots) ≡ c
+    same e =
+        logged-once k (ghosts s) (v .keyed .growing)
+        (subst (λ (x : Version). Logged (ghosts s) k x (contentAt k (s .table j .slots))) (sym e)
+        (of-held (λ key d x. (d ≡ nothing → ⊥) → Logged (ghosts s) key x d) k (s .table j .slots) (λ i. v .sound .tables j .slots i .content) (λ n. absurd (n refl))
+        (filled e (held-says k (s .table j .slots) (λ i. v .sound .tables j .slots i .rules)))))
+        l
 
 pub demand : (k : List ℕ) (s : State) → Reach s → Demand3 s k
 demand k s r = record {
   order = λ m n h b. v .keyed .order _ _ (places-ahead (members (s .chain)) m n h b);
   oneContent = λ u c d h i. logged-once k (ghosts s) (v .keyed .growing) (log h) (log i);
+  allNumbered = λ u c h. was-logged (log h);
   growing = v .keyed .growing;
-  ackedHeld = λ u p m t run. invariant k t (run-reach r run) .keyed .seenHeld u (byAck p (run-noted run _ m));
+  ackedHeld = λ u p m. kept (v .keyed .ackedGiven u p m) (λ t run j n. invariant k t (run-reach r run) .keyed .seenHeld u (byAck p (run-noted run _ m)) j n);
   readsRise = v .keyed .readsRise;
 }
   where
     v : Inv k s
     v = invariant k s r
+
+    kept : {u : Version} → Given (ghosts s) k u → ((t : State) → Run s t → (j : ℕ) → Mem j (members (t .chain)) → AtMost u (holdsVersion t j k)) → Kept s k u
+    kept g low = record {
+      content = g .content;
+      given = was-logged (g .log);
+      held = λ t run j n. held-once (invariant k t (run-reach r run)) (g .some) (run-logged run (g .log)) j (low t run j n);
+    }
 
     at : {k′ : List ℕ} {u u′ : Version} {c c′ : Content} → k′ ≡ k → u′ ≡ u → c′ ≡ c → Logged (ghosts s) k′ u′ c′ → Logged (ghosts s) k u c
     at ek ev ec h = rw (← ek, ← ev, ← ec) h

@@ -73,6 +73,7 @@ keyed-rechained {k} {w} {r} v c = record {
   sessions = λ u d h. let a = v .sessions u d h in let b = session-grows (c .session) in omega arith;
   firstHolds = λ u d h e. first u d h e (c .session);
   growing = v .growing;
+  ackedGiven = v .ackedGiven;
   seenHeld = λ u h j m. let i = c .stands j m in rw (i .2) (v .seenHeld u h (i .0) (i .1));
   readsRise = v .readsRise;
 }

@@ -29,8 +29,9 @@ use Rattle.steps.proofs.ChainIds.{first-mem}
 use Rattle.steps.proofs.ChainOrder.{Ahead, ahead-fst, ahead-snd, none-ahead-first}
 use Rattle.protocol.specs.System.{State, Ghost, numbered, acked, shown, carried, ghosts, upd}
 use Rattle.protocol.specs.Demand.{Growing, Seen, byRead, byAck, ReadsRise}
-use Rattle.protocol.specs.Inv.{World, nodeVersion, Logged, logged, worldOf, Passes, LiveTo, LiveFrom, StampedBefore, Good, SlotGood, TableGood, Sound, Keyed, Inv}
+use Rattle.protocol.specs.Inv.{World, nodeVersion, Logged, logged, Given, worldOf, Passes, LiveTo, LiveFrom, StampedBefore, Good, SlotGood, TableGood, Sound, Keyed, Inv}
 use Rattle.protocol.proofs.Upd.{upd-case, upd-other, upd-back}
+use Rattle.protocol.proofs.Ghosts.{other-kind}
 
 pub at-most-trans : {a b c : Version} → AtMost a b → AtMost b c → AtMost a c
 at-most-trans {a} {b} {c} h g = atmost-trans a b c h g
@@ -60,6 +61,9 @@ More l m = (g : Ghost) → Mem g l → Mem g m
 
 pub logged-more : {l m : List Ghost} {k : List ℕ} {v : Version} {c : Content} → More l m → Logged l k v c → Logged m k v c
 logged-more more (logged j b o i) = logged j b o (more _ i)
+
+given-more : {l m : List Ghost} {k : List ℕ} {v : Version} → More l m → Given l k v → Given m k v
+given-more h g = record { some = g .some; content = g .content; log = logged-more h (g .log) }
 
 pub slot-more : {l m : List Ghost} {x : Slot} → More l m → SlotGood l x → SlotGood m x
 slot-more more g = record { rules = g .rules; content = λ n. logged-more more (g .content n) }
@@ -143,6 +147,7 @@ keyed-grows wiring highest change table halted v up order some = record {
   sessions = v .sessions;
   firstHolds = λ u c h e. at-most-trans (v .firstHolds u c h e) (up _ (first-mem _ some));
   growing = v .growing;
+  ackedGiven = v .ackedGiven;
   seenHeld = λ u h j m. at-most-trans (v .seenHeld u h j m) (up j m);
   readsRise = v .readsRise;
 }
@@ -167,6 +172,7 @@ keyed-numbered {k} {w} key u c j b o v low first above = record {
   sessions = λ x d h. ⊎-elim (λ e. rw (e .1) (low (e .0))) (v .sessions x d) (back h);
   firstHolds = λ x d h e. ⊎-elim (λ q. rw (q .1) (first (q .0))) (λ h. v .firstHolds x d h e) (back h);
   growing = ((λ e x d i b′ p′ m. above e x d (logged i b′ p′ m)), v .growing);
+  ackedGiven = λ x p m. given-more (λ h m. there m) (v .ackedGiven x p (other-kind (λ z. omega arith) m));
   seenHeld = λ x h. v .seenHeld x (seen h);
   readsRise = v .readsRise;
 }
@@ -176,59 +182,59 @@ keyed-numbered {k} {w} key u c j b o v low first above = record {
     back (logged i b′ p′ (there m)) = inr (logged i b′ p′ m)
 
     seen : {x : Version} → Seen k x (numbered key u c j b o ∷ w .history) → Seen k x (w .history)
-    seen (byRead p (here e)) = absurd (let z : _≡_ {A = ℕ} 0 1 = cc in omega arith)
-    seen (byRead p (there m)) = byRead p m
-    seen (byAck p (here e)) = absurd (let z : _≡_ {A = ℕ} 0 1 = cc in omega arith)
-    seen (byAck p (there m)) = byAck p m
+    seen (byRead p m) = byRead p (other-kind (λ z. omega arith) m)
+    seen (byAck p m) = byAck p (other-kind (λ z. omega arith) m)
 
 -- an acknowledgement and a read log nothing, and one version is seen more
 pub logged-acked : {l : List Ghost} {k : List ℕ} {v : Version} {c : Content} (key : List ℕ) (u : Version) (p : Packet) → Logged (acked key u p ∷ l) k v c → Logged l k v c
-logged-acked key u p (logged i b o (here e)) = absurd (let z : _≡_ {A = ℕ} 0 1 = cc in omega arith)
-logged-acked key u p (logged i b o (there m)) = logged i b o m
+logged-acked key u p (logged i b o m) = logged i b o (other-kind (λ z. omega arith) m)
 
 pub logged-shown : {l : List Ghost} {k : List ℕ} {v : Version} {c : Content} (key : List ℕ) (u : Version) (p : Packet) → Logged (shown key u p ∷ l) k v c → Logged l k v c
-logged-shown key u p (logged i b o (here e)) = absurd (let z : _≡_ {A = ℕ} 0 1 = cc in omega arith)
-logged-shown key u p (logged i b o (there m)) = logged i b o m
+logged-shown key u p (logged i b o m) = logged i b o (other-kind (λ z. omega arith) m)
 
 seen-acked : {l : List Ghost} {k : List ℕ} {v : Version} (key : List ℕ) (u : Version) (p : Packet) → Seen k v (acked key u p ∷ l) → ((key ≡ k) × (v ≡ u)) ⊎ Seen k v l
-seen-acked key u p (byRead q (here e)) = absurd (let z : _≡_ {A = ℕ} 0 1 = cc in omega arith)
-seen-acked key u p (byRead q (there m)) = inr (byRead q m)
+seen-acked key u p (byRead q m) = inr (byRead q (other-kind (λ z. omega arith) m))
 seen-acked key u p (byAck q (here e)) = inl (cc, cc)
 seen-acked key u p (byAck q (there m)) = inr (byAck q m)
 
 seen-shown : {l : List Ghost} {k : List ℕ} {v : Version} (key : List ℕ) (u : Version) (p : Packet) → Seen k v (shown key u p ∷ l) → ((key ≡ k) × (v ≡ u)) ⊎ Seen k v l
 seen-shown key u p (byRead q (here e)) = inl (cc, cc)
 seen-shown key u p (byRead q (there m)) = inr (byRead q m)
-seen-shown key u p (byAck q (here e)) = absurd (let z : _≡_ {A = ℕ} 0 1 = cc in omega arith)
-seen-shown key u p (byAck q (there m)) = inr (byAck q m)
+seen-shown key u p (byAck q m) = inr (byAck q (other-kind (λ z. omega arith) m))
 
 -- a ghost that logs nothing, of a version that every chain node holds
 keyed-seen : {k : List ℕ} {w : World} (g : Ghost) (key : List ℕ) (u : Version) → Keyed k w
     → ((x : Version) (c : Content) → Logged (g ∷ w .history) k x c → Logged (w .history) k x c)
     → ((x : Version) → Seen k x (g ∷ w .history) → ((key ≡ k) × (x ≡ u)) ⊎ Seen k x (w .history))
+    → ((x : Version) (p : Packet) → Mem (acked k x p) (g ∷ w .history) → Given (w .history) k x)
     → Growing k (g ∷ w .history) → ReadsRise k (g ∷ w .history)
     → (key ≡ k → (j : ℕ) → Mem j (members (w .chain)) → AtMost u (nodeVersion w k j))
     → Keyed k (world (w .chain) (w .table) (w .halted) (g ∷ w .history))
-keyed-seen g key u v logs sees grow rise low = record {
+keyed-seen g key u v logs sees acks grow rise low = record {
   order = v .order;
   sessions = λ x c h. v .sessions x c (logs x c h);
   firstHolds = λ x c h. v .firstHolds x c (logs x c h);
   growing = grow;
+  ackedGiven = λ x p m. given-more (λ h m. there m) (acks x p m);
   seenHeld = λ x h j m. ⊎-elim (λ e. rw (e .1) (low (e .0) j m)) (λ h. v .seenHeld x h j m) (sees x h);
   readsRise = rise;
 }
 
 pub keyed-acked : {k : List ℕ} {w : World} (key : List ℕ) (u : Version) (p : Packet)
-    → Keyed k w → (key ≡ k → (j : ℕ) → Mem j (members (w .chain)) → AtMost u (nodeVersion w k j))
+    → Keyed k w → (key ≡ k → Given (w .history) k u) → (key ≡ k → (j : ℕ) → Mem j (members (w .chain)) → AtMost u (nodeVersion w k j))
     → Keyed k (world (w .chain) (w .table) (w .halted) (acked key u p ∷ w .history))
-keyed-acked key u p v low = keyed-seen (acked key u p) key u v (λ x c. logged-acked key u p) (λ x. seen-acked key u p) (v .growing) (v .readsRise) low
+keyed-acked {k} {w} key u p v gives low = keyed-seen (acked key u p) key u v (λ x c. logged-acked key u p) (λ x. seen-acked key u p) acks (v .growing) (v .readsRise) low
+  where
+    acks : (x : Version) (q : Packet) → Mem (acked k x q) (acked key u p ∷ w .history) → Given (w .history) k x
+    acks x q (here e) = let z : x ≡ u = cc in subst (Given (w .history) k) (sym z) (gives (cc))
+    acks x q (there m) = v .ackedGiven x q m
 
 -- a read shows the version of some chain node i
 pub keyed-shown : {k : List ℕ} {w : World} (key : List ℕ) (u : Version) (p : Packet) (i : ℕ)
     → Keyed k w → Mem i (members (w .chain)) → (key ≡ k → u ≡ nodeVersion w k i) → (key ≡ k → (j : ℕ) → Mem j (members (w .chain)) → AtMost u (nodeVersion w k j))
     → Keyed k (world (w .chain) (w .table) (w .halted) (shown key u p ∷ w .history))
 keyed-shown key u p i v mi is low =
-    keyed-seen (shown key u p) key u v (λ x c. logged-shown key u p) (λ x. seen-shown key u p) (v .growing)
+    keyed-seen (shown key u p) key u v (λ x c. logged-shown key u p) (λ x. seen-shown key u p) (λ x q m. v .ackedGiven x q (other-kind (λ z. omega arith) m)) (v .growing)
     ((λ e x h. rw (is e) (v .seenHeld x h i mi)), v .readsRise) low
 
 -- ---- one table of a chain node changed

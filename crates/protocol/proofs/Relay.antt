@@ -19,10 +19,10 @@ use Rattle.steps.proofs.ChainIds.{first-mem, last-mem}
 use Rattle.steps.proofs.ChainOrder.{Ahead, last-behind, next-mem, ahead-next, not-after-last, not-before-first, none-ahead-first}
 use Rattle.steps.proofs.Control.{some-members}
 use Rattle.protocol.specs.System.{State, Event, Ghost, acked, carried, relayGhosts, ghostsOf, allGhosts, ghosts, relayed}
-use Rattle.protocol.specs.Inv.{worldOf, nodeVersion, Logged, Good, Inv}
+use Rattle.protocol.specs.Inv.{worldOf, nodeVersion, Logged, Given, Good, Inv}
 use Rattle.protocol.proofs.Prims.{at-most-trans, world, good-clear, good-grows, logged-acked, keyed-acked, sound-more, grows-history, open-rules, fresh-nonzero, good-away, inv-made, inv-same}
 use Rattle.protocol.proofs.Ghosts.{ghosts-acked, ghosts-handed, ghosts-sent}
-use Rattle.protocol.proofs.Packets.{Alteration, alteration, carried-stored, carried-unnumbered, carried-client, carried-written, fit-toNode-read, fit-toNode, fit-toClient, fit-written}
+use Rattle.protocol.proofs.Packets.{Alteration, alteration, stored-some, carried-stored, carried-unnumbered, carried-client, carried-written, fit-toNode-read, fit-toNode, fit-toClient, fit-written}
 
 -- a read has no value
 read-short : (p : Packet) → Fit p → p .head .answer ≡ query → p .head .op ≡ opRead → p .head .length ≡ 0
@@ -169,7 +169,7 @@ module _ {k : List ℕ} {s : State} (v : Inv k s) (p : Packet) (fit : Fit p) whe
           (inv-made (world (s .chain) (s .table) (s .halted) (acked (p .key) (p .head .version) (toClient answerWritten [] p) ∷ ghosts s)) (toClient answerWritten [] p)
           (λ i. world (s .chain) (s .table) (s .halted) (new-history (toClient answerWritten [] p ∷ []) (ghosts-acked p (toClient answerWritten [] p) [] (c .asks) refl) i)) refl v
           (sound-more _ (v .sound) (λ h m. there m))
-          (keyed-acked (p .key) (p .head .version) (toClient answerWritten [] p) (v .keyed) held)
+          (keyed-acked (p .key) (p .head .version) (toClient answerWritten [] p) (v .keyed) gives held)
           (λ q h. good-grows (s .chain .change) (grows-history _ (λ h m. there m) (λ x d. logged-acked _ _ _)) h (good-clear h))
           (good-toClient (toClient answerWritten [] p) (fit-written p fit a (a .orderly some) some) refl refl refl (λ z. omega arith) _
           (λ n. absurd (n (carried-written p)))))
@@ -179,6 +179,14 @@ module _ {k : List ℕ} {s : State} (v : Inv k s) (p : Packet) (fit : Fit p) whe
 
           some : 0 < p .head .version .sequence .0
           some = let n = c .numbered .1 in omega arith
+
+          gives : p .key ≡ k → Given (ghosts s) k (p .head .version)
+          gives ek = record {
+            some = some;
+            content = carried p;
+            log = subst (λ (key : List ℕ). Logged (ghosts s) key (p .head .version) (carried p)) ek
+                (g .content (λ z. stored-some p (p .head .version) (a .kind) (sym (carried-stored p p (p .head .version) (a .kind) refl refl (c .asks) (c .numbered .1)) ∙ z)));
+          }
 
           held : p .key ≡ k → (i : ℕ) → Mem i (members (s .chain)) → AtMost (p .head .version) (nodeVersion (worldOf s) k i)
           held ek i m = held-ahead (c .sender .member) (c .asks) (c .numbered) ek i (rw (c .last) (last-behind _ m))

@@ -1,17 +1,20 @@
 -- Document 01's demand 3, for each key, and the acknowledged write: what is proved of every reachable state and every run.
-use Prim.Native.Nat.{ℕ, suc, _<_}
+use Prim.Native.Nat.{ℕ, _+_, _<_}
 use mathlib.Core.Path.{_≡_}
 use mathlib.Core.List.{List, [], _∷_, List·Memᴰ as Mem}
 use mathlib.Core.Bool.{false}
 use mathlib.Core.Logic.{_⊎_}
 use lib.ListN.{length, getD}
-use Rattle.wire.specs.Version.{zeroVersion, AtMost, Below, topSequence}
-use Rattle.wire.specs.Packet.{Packet, Fit, query, opWrite, opDelete, answerWritten}
+use lib.Dec.{eqb}
+use Rattle.wire.specs.Numbers.{ok, pick}
+use Rattle.wire.specs.Version.{stamp, zeroVersion, AtMost, Below, topSequence}
+use Rattle.wire.specs.Packet.{Packet, packet, Fit, query, opWrite, opDelete, answerWritten}
 use Rattle.wire.specs.declared.Version.{Version}
-use Rattle.store.specs.Table.{Slot, freeSlot}
-use Rattle.store.specs.Held.{holds, held, Content, nothing, contentOf, versionAt}
+use Rattle.store.specs.Table.{Slot, Table, freeSlot}
+use Rattle.store.specs.Held.{holds, held, Content, nothing, wrote, gone, contentOf, versionAt, contentAt}
 use Rattle.steps.specs.declared.Change.the-variants.{Still}
 use Rattle.steps.specs.Chain.{members, firstOf}
+use Rattle.steps.specs.Relay.{Way, node, client, relayStep}
 use Rattle.protocol.specs.System.{State, fromClient, atRelay, atNode, Ghost, numbered, acked, shown, carried, ghosts, exec, Enabled, Run}
 
 -- the version that node j holds of key k; a missing key counts as 0.0
@@ -37,6 +40,11 @@ pub data StandsFor (s : State) (k : List ℕ) (v : Version) (c : Content) : Type
 abbrev pub OneContent : State → List ℕ → Type 0
 OneContent s k = (v : Version) (c d : Content) → StandsFor s k v c → StandsFor s k v d → c ≡ d
 
+-- and nothing stands anywhere but what a node gave a number
+abbrev pub AllNumbered : State → List ℕ → Type 0
+AllNumbered s k =
+    (v : Version) (c : Content) → StandsFor s k v c → (j : ℕ) × (before : Version) × (origin : Packet) × Mem (numbered k v c j before origin) (ghosts s)
+
 -- the stronger form: each numbering of a key is higher than every earlier one (the list has the newest first)
 abbrev pub Growing : List ℕ → List Ghost → Type 0
 Growing k [] = Unit {0}
@@ -47,11 +55,18 @@ Growing k (shown k′ v p ∷ l) = Growing k l
 
 -- ---- 3: an acknowledged write is held by every chain node from then on
 
-abbrev pub HeldBy : State → List ℕ → Version → Type 0
-HeldBy s k v = (j : ℕ) → Mem j (members (s .chain)) → AtMost v (holdsVersion s j k)
+-- a table holds version v of key k with content c, or a later version
+abbrev pub HoldsOrLater : List ℕ → Version → Content → Table → Type 0
+HoldsOrLater k v c t = ((versionAt k (t .slots) ≡ v) × (contentAt k (t .slots) ≡ c)) ⊎ Below v (versionAt k (t .slots))
+
+-- version v of key k was given to a content, and from then on every chain node holds it with that content, or a later version
+pub record Kept (s : State) (k : List ℕ) (v : Version) : Type 0 where
+  pub content : Content
+  pub given : (j : ℕ) × (before : Version) × (origin : Packet) × Mem (numbered k v content j before origin) (ghosts s)
+  pub held : (t : State) → Run s t → (j : ℕ) → Mem j (members (t .chain)) → HoldsOrLater k v content (t .table j)
 
 abbrev pub AckedHeld : State → List ℕ → Type 0
-AckedHeld s k = (v : Version) (p : Packet) → Mem (acked k v p) (ghosts s) → (t : State) → Run s t → HeldBy t k v
+AckedHeld s k = (v : Version) (p : Packet) → Mem (acked k v p) (ghosts s) → Kept s k v
 
 -- ---- 4: answered reads never go back behind earlier reads or acknowledgements
 
@@ -71,19 +86,26 @@ ReadsRise k (acked k′ v p ∷ l) = ReadsRise k l
 pub record Demand3 (s : State) (k : List ℕ) : Type 0 where
   pub order : ChainOrder s k
   pub oneContent : OneContent s k
+  pub allNumbered : AllNumbered s k
   pub growing : Growing k (ghosts s)
   pub ackedHeld : AckedHeld s k
   pub readsRise : ReadsRise k (ghosts s)
 
 -- ---- the acknowledged write
 
--- from a state in which packet p was just made: n node steps, each followed by a relay step, all enabled, no other event; q is the last packet made
-pub data Arrives : ℕ → State → Packet → State → Packet → Type 0 where
-  there : {s : State} {p : Packet} → Arrives 0 s p s p
-  hop : {n : ℕ} {s t u w : State} {p q r x : Packet} (j : ℕ)
+-- where the relay sends a packet that has these nodes still before it: to the first of them, or to the client
+abbrev pub wayAlong : List ℕ → Packet → Way
+wayAlong [] q = client q
+wayAlong (j ∷ l) q = node j q
+
+-- from a state in which packet p was just made: a node step at each of these nodes, in this order, each followed by a relay step, all enabled, no other event;
+-- nothing is lost, for each node gets what the relay sent it; x is the last packet made, and sent to the client
+pub data Arrives : List ℕ → State → Packet → State → Packet → Type 0 where
+  there : {s : State} {p : Packet} → Arrives [] s p s p
+  hop : {l : List ℕ} {s t u w : State} {p q r x : Packet} (j : ℕ)
       → Enabled (atNode j p) s → t ≡ exec (atNode j p) s → t .packets ≡ q ∷ s .packets
-      → Enabled (atRelay q) t → u ≡ exec (atRelay q) t → u .packets ≡ r ∷ t .packets
-      → Arrives n u r w x → Arrives (suc n) s p w x
+      → Enabled (atRelay q) t → relayStep (t .chain) q ≡ ok (wayAlong l r) → u ≡ exec (atRelay q) t → u .packets ≡ r ∷ t .packets
+      → Arrives l u r w x → Arrives (j ∷ l) s p w x
 
 -- a client's write or delete
 pub record ClientWrite (p : Packet) : Type 0 where
@@ -103,21 +125,49 @@ pub record Ready (s : State) (k : List ℕ) : Type 0 where
   pub left : (x : Slot) → held k (s .table (firstOf (members (s .chain))) .slots) ≡ holds x
       → x .version .session ≡ s .chain .session → x .version .sequence .0 < topSequence
 
--- one write is acknowledged after k node steps and k + 1 relay steps
+-- what a write or delete leaves under its version: the client's value, or a deletion
+unfoldable pub wanted : Packet → Content
+wanted p = pick (eqb (p .head .op) opWrite) (wrote (p .value)) gone
+
+-- answer 4 to a client's write or delete, under a version: the client's op, client, request and key; from, to, stamp and length are 0
+unfoldable pub ackOf : Packet → Version → Packet
+ackOf p v = packet
+    (record {
+      op = p .head .op;
+      answer = answerWritten;
+      from = 0;
+      to = 0;
+      client = p .head .client;
+      request = p .head .request;
+      stamp = stamp 0;
+      version = v;
+      length = 0;
+    })
+    (p .key)
+    []
+
+-- a table holds this write: under its key, this version with the client's content
+pub record HoldsWrite (p : Packet) (v : Version) (t : Table) : Type 0 where
+  pub version : versionAt (p .key) (t .slots) ≡ v
+  pub content : contentAt (p .key) (t .slots) ≡ wanted p
+
+-- this write is acknowledged after k node steps and k + 1 relay steps
 pub record Acknowledged (s : State) (p : Packet) : Type 0 where
-  -- the relay sends it to a node
+  -- the relay makes a packet of it and sends it to the first node
+  pub enabled : Enabled (fromClient p) s
   pub first : Packet
+  pub sent : relayStep (s .chain) p ≡ ok (wayAlong (members (s .chain)) first)
   pub relayed : exec (fromClient p) s .packets ≡ first ∷ s .packets
-  -- as many node steps as the chain has nodes, each followed by one more relay step
+  -- a node step at each of the k chain nodes, each followed by one more relay step; the last packet made is answer 4 to this client, for this request and key
+  pub version : Version
   pub final : State
-  pub last : Packet
-  pub arrives : Arrives (length (members (s .chain))) (exec (fromClient p) s) first final last
-  -- the last packet made is answer 4 with that client, request and key, and the version that the head gave
-  pub answer : last .head .answer ≡ answerWritten
-  pub op : last .head .op ≡ p .head .op
-  pub client : last .head .client ≡ p .head .client
-  pub request : last .head .request ≡ p .head .request
-  pub key : last .key ≡ p .key
-  pub given : (c : Content) × (before : Version) × (origin : Packet)
-      × Mem (numbered (p .key) (last .head .version) c (firstOf (members (s .chain))) before origin) (ghosts final)
-  pub acked : Mem (acked (p .key) (last .head .version) last) (ghosts final)
+  pub arrives : Arrives (members (s .chain)) (exec (fromClient p) s) first final (ackOf p version)
+  pub steps : length (final .trace) ≡ length (members (s .chain)) + (length (members (s .chain)) + 1) + length (s .trace)
+  -- all that the history has gained: the head gave that version to the packet that the relay made, for the client's content; and it was acknowledged
+  pub history : ghosts final
+      ≡ acked (p .key) version (ackOf p version)
+      ∷ (numbered (p .key) version (wanted p) (firstOf (members (s .chain))) (holdsVersion s (firstOf (members (s .chain))) (p .key)) first
+      ∷ ghosts s)
+  -- every chain node holds it
+  pub chain : final .chain ≡ s .chain
+  pub held : (j : ℕ) → Mem j (members (s .chain)) → HoldsWrite p version (final .table j)

@@ -19,7 +19,7 @@ use Rattle.steps.specs.Chain.{members, firstOf, ChainRules, Opened}
 use Rattle.steps.specs.Node.{isRead, Numbered, Unnumbered}
 use Rattle.steps.specs.Relay.{stops}
 use Rattle.steps.proofs.ChainOrder.{Ahead}
-use Rattle.protocol.specs.System.{State, Ghost, numbered, carried, ghosts}
+use Rattle.protocol.specs.System.{State, Ghost, numbered, acked, carried, ghosts}
 use Rattle.protocol.specs.Demand.{Growing, Seen, ReadsRise}
 
 -- what the invariant sees of a state but for its packets
@@ -39,6 +39,12 @@ nodeVersion w k j = versionAt k (w .table j .slots)
 -- the history has that version v of key k was given to content c
 pub data Logged (l : List Ghost) (k : List ℕ) (v : Version) (c : Content) : Type 0 where
   logged : (node : ℕ) (before : Version) (origin : Packet) → Mem (numbered k v c node before origin) l → Logged l k v c
+
+-- version v of key k, which is not 0.0, was given to a content
+pub record Given (l : List Ghost) (k : List ℕ) (v : Version) : Type 0 where
+  pub some : 0 < v .sequence .0
+  pub content : Content
+  pub log : Logged l k v content
 
 -- node j holds every version of key k that was given in session n or later
 abbrev pub HoldsSince : World → List ℕ → ℕ → ℕ → Type 0
@@ -125,6 +131,8 @@ pub record Keyed (k : List ℕ) (w : World) : Type 0 where
       → AtMost v (nodeVersion w k (firstOf (members (w .chain))))
   -- each version given is above all earlier ones
   pub growing : Growing k (w .history)
+  -- what was acknowledged had been given
+  pub ackedGiven : (v : Version) (p : Packet) → Mem (acked k v p) (w .history) → Given (w .history) k v
   -- every chain node holds what was acknowledged or read
   pub seenHeld : (v : Version) → Seen k v (w .history) → (j : ℕ) → Mem j (members (w .chain)) → AtMost v (nodeVersion w k j)
   pub readsRise : ReadsRise k (w .history)

@@ -1,4 +1,4 @@
--- Runs that are computed: how a run goes, document 01's bench example, the incident that fences are for, a first node replaced, a last node replaced.
+-- Runs that are computed: how a run goes, document 01's bench example, the incident that fences are for, a first node replaced, a last node replaced, every event.
 use Prim.Native.Nat.{ℕ}
 use mathlib.Core.List.{List, [], _∷_, _++_}
 use mathlib.Core.Bool.{Bool, true, false, _&&_, _||_, not}
@@ -320,3 +320,80 @@ tailOutcomes =
     ∷ outcome 0 (writeB 3 0 2 (version 1 2) ∷ [])
     ∷ outcome 0 (writtenAnswer 2 (version 1 2) ∷ [])
     ∷ [])
+
+-- ---- every event: those that the other runs have not, each done and refused
+
+abbrev pub everyEvents : List Event
+everyEvents =
+    noPacket
+    ∷ enters 1 1 theKey
+    ∷ enters 2 2 theKey
+    ∷ enters 1 2 theKey
+    -- node 3 is to join before 2, and the change is given up: its id is spent
+    ∷ opens false 2 3
+    ∷ fences 3
+    ∷ fences 2
+    ∷ copies 0 3 2
+    ∷ copies 0 2 3
+    ∷ cancels
+    ∷ cancels
+    ∷ activates
+    ∷ opens false 2 3
+    -- A is written; its packets go astray, come twice and come back
+    ∷ fromClient (writeA 0 0 0 zeroVersion)
+    ∷ atNode 2 (writeA 0 1 2 (version 1 0))
+    ∷ atNode 3 (writeA 0 1 2 (version 1 0))
+    ∷ atRelay (writeA 0 1 2 (version 1 0))
+    ∷ atNode 1 (writeA 0 1 2 (version 1 0))
+    ∷ atNode 1 (writeA 0 1 2 (version 1 0))
+    ∷ atRelay (writeA 1 0 2 (version 1 2))
+    ∷ atRelay (writeA 1 0 2 (version 1 1))
+    ∷ atNode 2 (writeA 0 2 2 (version 1 2))
+    ∷ atNode 2 (writeA 0 2 2 (version 1 1))
+    ∷ atRelay (writeA 2 0 2 (version 1 2))
+    ∷ atRelay (writtenAnswer 1 (version 1 2))
+    -- node 1 halts, twice, and is removed, once; then 2 is the only node
+    ∷ halts 1
+    ∷ halts 1
+    ∷ removes 1
+    ∷ removes 1
+    ∷ atRelay (writeA 1 0 2 (version 1 1))
+    ∷ halts 2
+    ∷ removes 2
+    ∷ []
+
+abbrev pub everyOutcomes : List Outcome
+everyOutcomes =
+    outcome 3 []
+    ∷ outcome 0 []
+    ∷ outcome 0 []
+    ∷ outcome 15 []
+    ∷ outcome 0 []
+    ∷ outcome 15 []
+    ∷ outcome 0 []
+    ∷ outcome 15 []
+    ∷ outcome 0 []
+    ∷ outcome 0 []
+    ∷ outcome 14 []
+    ∷ outcome 14 []
+    ∷ outcome 16 []
+    ∷ outcome 0 (writeA 0 1 2 (version 1 0) ∷ [])
+    ∷ outcome 4 []
+    ∷ outcome 4 []
+    ∷ outcome 4 []
+    ∷ outcome 0 (writeA 1 0 2 (version 1 1) ∷ [])
+    ∷ outcome 0 (writeA 1 0 2 (version 1 2) ∷ [])
+    ∷ outcome 0 (writeA 0 2 2 (version 1 2) ∷ [])
+    ∷ outcome 0 (writeA 0 2 2 (version 1 1) ∷ [])
+    ∷ outcome 0 (writeA 2 0 2 (version 1 2) ∷ [])
+    ∷ outcome 12 []
+    ∷ outcome 0 (writtenAnswer 1 (version 1 2) ∷ [])
+    ∷ outcome 4 []
+    ∷ outcome 0 []
+    ∷ outcome 0 []
+    ∷ outcome 0 []
+    ∷ outcome 15 []
+    ∷ outcome 5 []
+    ∷ outcome 0 []
+    ∷ outcome 18 []
+    ∷ []

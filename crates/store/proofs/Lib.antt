@@ -4,3 +4,4 @@ pub mod Find
 pub mod Rules
 pub mod Blank
 pub mod Examples
+pub mod BlankExamples

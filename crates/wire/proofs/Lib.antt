@@ -3,3 +3,4 @@ pub mod Versions
 pub mod Packet
 pub mod RoundTrip
 pub mod Literals
+pub mod Examples
