@@ -1,8 +1,10 @@
-// Random scripts through the bench program and the reference bench: the outputs must be the same, byte for byte.
+// Random scripts, then random bytes, through the bench program and the reference bench: the outputs must be the same,
+// byte for byte.
 //
 // Arguments: the program, and a folder for the script of a mismatch. BENCH_SEED and BENCH_SCRIPTS set the seed and the
 // number of scripts. The scripts are made with the reference world at hand, so that lines fit its state and deep states
-// happen. The run fails if a number the bench can give, or a place of activation, was not reached.
+// happen. The run fails if a number the bench can give, or a place of activation, was not reached. The random bytes are
+// no scripts: lines of some MB, all 256 values, and inputs that end anywhere.
 
 #[path = "../reference/dice.rs"]
 mod dice;
@@ -20,6 +22,7 @@ const SEED: u64 = 20_250_101;
 const SCRIPTS: u64 = 4_000;
 const LINES: usize = 200;
 const LONG_LINES: usize = 20_000;
+const RAW_INPUTS: usize = 240;
 
 /// All results of the bench: 0 and the numbers it can give.
 const RESULTS: [u8; 15] = [0, 5, 6, 7, 9, 12, 13, 14, 15, 16, 18, 20, 21, 23, 24];
@@ -317,10 +320,13 @@ fn run_program(program: &str, input: &[u8]) -> Result<Vec<u8>, String> {
     }
 }
 
+/// How much of a line is printed.
+const MOST_SHOWN: usize = 400;
+
 /// The first line in which two outputs differ, with its input line.
 fn difference(input: &[u8], expected: &[u8], got: &[u8]) -> String {
     let shown = |lines: &[&[u8]], at: usize| {
-        lines.get(at).map_or("no line".to_string(), |line| line.escape_ascii().to_string())
+        lines.get(at).map_or("no line".to_string(), |line| line[..line.len().min(MOST_SHOWN)].escape_ascii().to_string())
     };
     let (inputs, expected, got) = (world::lines(input), world::lines(expected), world::lines(got));
     let longest = expected.len().max(got.len());
@@ -370,7 +376,7 @@ fn worker(program: &str, seed: u64, scripts: u64, first: u64, step: u64) -> (Cou
 fn report(mismatch: &Mismatch, folder: &str) {
     let file = format!("{folder}/mismatch.in");
     for line in world::lines(&mismatch.input) {
-        println!("{}", line.escape_ascii());
+        println!("{}", line[..line.len().min(MOST_SHOWN)].escape_ascii());
     }
     println!("script {} differs at {}", mismatch.index, mismatch.what);
     match std::fs::write(&file, &mismatch.input) {
@@ -394,6 +400,66 @@ fn all_reached(counts: &Counts) -> bool {
         println!("not to be reached on a bench: {strange:?}");
     }
     missing.is_empty() && strange.is_empty()
+}
+
+// ---- Any bytes ----
+
+/// Bytes that are no script: any byte; many short lines; one byte over and over, in lines about as long as what is
+/// read at a time or of some MB; a script with bytes changed.
+fn raw(dice: &mut Dice, number: usize) -> Vec<u8> {
+    let mut input: Vec<u8> = match number % 4 {
+        0 => (0..dice.below(60_000)).map(|_| dice.next() as u8).collect(),
+        1 => (0..dice.below(6_000)).map(|_| dice.pick(b"\n\n\n \0\r\t019azAZehr")).collect(),
+        2 => {
+            let most = if number < 24 { 3_000_000 } else { 3 * 4096 + 200 };
+            let mut input = vec![dice.next() as u8; most - dice.below(most / 3)];
+            for _ in 0..dice.below(4) {
+                let at = dice.below(input.len());
+                input[at] = b'\n';
+            }
+            input
+        }
+        _ => {
+            let mut input = make(dice.next(), 40, &mut Counts::new()).input;
+            for _ in 0..dice.below(20) {
+                let at = dice.below(input.len());
+                input[at] = dice.next() as u8;
+            }
+            input
+        }
+    };
+    // Half of the inputs end in the middle of a line, and a few lines may not be skipped behind a long one.
+    input.extend(dice.pick(&["", "", "\nhalt 1\nhalt 1", "\nhalt 9\n", "\n"]).bytes());
+    input
+}
+
+/// How many lines an input has: its newlines, and what stands behind the last.
+fn line_count(input: &[u8]) -> usize {
+    input.iter().filter(|&&byte| byte == b'\n').count() + usize::from(input.last().is_some_and(|&byte| byte != b'\n'))
+}
+
+/// Random bytes through the program and the reference, up to the first mismatch.
+fn any_bytes(program: &str, seed: u64) -> Option<Mismatch> {
+    let mut dice = Dice(seed);
+    let (mut bytes, mut lines, mut longest) = (0, 0, 0);
+    let mut seen = [false; 256];
+    for number in 0..RAW_INPUTS {
+        let input = raw(&mut dice, number);
+        input.iter().for_each(|&byte| seen[usize::from(byte)] = true);
+        bytes += input.len();
+        lines += line_count(&input);
+        longest = longest.max(world::lines(&input).iter().map(|line| line.len()).max().unwrap_or(0));
+        let mut world = World::new();
+        let output: Vec<u8> = world::lines(&input).into_iter().flat_map(|line| world.line(line)).collect();
+        assert_eq!(line_count(&output), line_count(&input), "one output line for each line");
+        let script = Script { input, output };
+        if let Err(what) = compare(program, &script) {
+            return Some(Mismatch { index: number as u64, input: script.input, what });
+        }
+    }
+    assert!(seen.iter().all(|&seen| seen), "every byte value occurs");
+    println!("{RAW_INPUTS} inputs of any bytes: {bytes} bytes, {lines} lines, the longest of {longest} bytes");
+    None
 }
 
 fn setting(name: &str, default: u64) -> u64 {
@@ -420,8 +486,8 @@ fn main() -> ExitCode {
         reached.into_iter().for_each(|(name, times)| *counts.entry(name).or_default() += times);
         mismatches.extend(mismatch);
     }
-    let first = mismatches.iter().min_by_key(|mismatch| mismatch.index);
-    if let Some(mismatch) = first {
+    let first = mismatches.into_iter().min_by_key(|mismatch| mismatch.index).or_else(|| any_bytes(program, seed));
+    if let Some(mismatch) = &first {
         report(mismatch, folder);
     }
     if first.is_none() && all_reached(&counts) {

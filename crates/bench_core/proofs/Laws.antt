@@ -2,8 +2,8 @@
 use Prim.Native.Nat.{ℕ, _-_, _≤_}
 use mathlib.Core.List.{List}
 use native.Mathlib.Omega.{arith}
-use lib.ListN.{length, getD, take, drop, length-take, length-drop}
-use Rattle.wire.specs.Packet.{frontSize, lengthAt, valueOf}
+use lib.ListN.{length, length-take, length-drop}
+use Rattle.wire.specs.Packet.{frontSize, valueOf}
 
 pub value-fits : (s : List ℕ) → length (valueOf s) ≤ length s - frontSize
 unfolding valueOf

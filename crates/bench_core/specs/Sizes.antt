@@ -9,10 +9,6 @@ mostNodes = 8
 abbrev pub mostParcels : ℕ
 mostParcels = 64
 
--- the most digits of a number
-abbrev pub mostDigits : ℕ
-mostDigits = 20
-
 -- a table of 8 slots
 abbrev pub tableSize : ℕ
 tableSize = rowAt 8
@@ -27,10 +23,3 @@ parcelSize = 2 + outletSize
 
 abbrev pub parcelsSize : ℕ
 parcelsSize = parcelSize * mostParcels
-
--- a line of the input, and with it what is read at a time
-abbrev pub lineSize : ℕ
-lineSize = 65
-
-abbrev pub inputSize : ℕ
-inputSize = lineSize + 4096

@@ -5,7 +5,6 @@ ghost use lib.ListN.{length};
 ghost use Rattle.bench_core.specs.Sizes.{tableSize, nodesSize};
 use crate::HALTED;
 use crate::UNCLEAR;
-use steps::Chain;
 use store::HEAD_SIZE;
 use store::ROW_SIZE;
 use wire::KEY_SIZE;
@@ -61,18 +60,18 @@ pub fn blank(nodes: &mut [u8], id: u16)
     requires { ⌜ length (now nodes) ≡ nodesSize ⌝ }
 {
     let a = table_at(id);
-    table::blank(&mut nodes[a..a + TABLE_SIZE], id, SLOTS);
+    register::register_blank(&mut nodes[a..a + TABLE_SIZE], id, SLOTS);
 }
 
-// Nodes 1, 2 and 3 with blank nodes, and the record of their chain.
-pub fn start(nodes: &mut [u8]) -> Chain
+// Nodes 1, 2 and 3 with blank tables, and the record of their chain.
+pub fn start(rec: &mut [u32], nodes: &mut [u8])
     requires { ⌜ length (now nodes) ≡ nodesSize ⌝ }
 {
     blank(nodes, 1);
     blank(nodes, 2);
     blank(nodes, 3);
-    let r = chain::start(3, [1, 2, 3, 0, 0, 0, 0, 0], SLOTS);
-    r.chain
+    let ids = [1u16, 2, 3];
+    register::register_start(rec, &ids, SLOTS);
 }
 
 // The byte at a place of a word, and 0 past its end.
@@ -91,16 +90,17 @@ pub fn padded(w: &[u8]) -> [u8; 16] {
     key
 }
 
-pub fn enter(chain: Chain, nodes: &mut [u8], id: u16, name: &[u8]) -> u8
+// The key of a line that enters.
+pub fn enter(rec: &[u32], nodes: &mut [u8], id: u16, line: &[u8]) -> u8
     requires { ⌜ length (now nodes) ≡ nodesSize ⌝ }
 {
     if known(nodes, id) {
         if halted(nodes, id) {
             return HALTED;
         }
-        let key = padded(name);
+        let key = padded(script::key(line));
         let a = table_at(id);
-        return control::enter(chain, &mut nodes[a..a + TABLE_SIZE], id, &key);
+        return register::register_enter(rec, &mut nodes[a..a + TABLE_SIZE], id, &key);
     }
     UNCLEAR
 }

@@ -1,7 +1,15 @@
 // A line of a script: its words, and the command that they make.
 ghost use Prim.Native.Nat.{_≤_};
+ghost use mathlib.Core.Path.{_≡_};
+ghost use mathlib.Core.Bool.{_||_};
 ghost use lib.ListN.{length};
+ghost use lib.Dec.{eqb};
+ghost use Rattle.bytes.specs.Bytes.{indexOf};
+ghost use Rattle.wire.specs.Numbers.{pick};
+ghost use Rattle.store.specs.Table.{eqs};
 ghost use Rattle.script.specs.Sizes.{mostText, noSuch};
+ghost use Rattle.script.specs.Words.{firstWord, behind, word, wordCount, isDigit, isLetter, plain, textOf, keyOf, valueOf, capped, longer, numberOf};
+ghost use Rattle.script.specs.Commands.{ofOne, ofTwo, bareOf, ofThree, writeOf, openOf, ofFour, ofCount, commandOf};
 use wire::OP_DELETE;
 use wire::OP_READ;
 use wire::OP_WRITE;
@@ -35,100 +43,118 @@ pub enum Command {
 
 // ---- words
 
-// The first space from `from` on, or the end of the line.
-fn space(line: &[u8], from: usize) -> usize
-    requires { ⌜ from ≤ length (now line) ⌝ }
-    ensures { λ r. ⌜ (from ≤ r) × (r ≤ length (now (line .entry))) ⌝ }
+// Where the first space is, or the end of the line.
+fn gap(line: &[u8]) -> usize
+    ensures { λ r. ⌜ (r ≡ indexOf 32 (now (line .entry))) × (r ≤ length (now (line .entry))) ⌝ }
 {
-    let mut i = from;
-    while i < line.len() {
-        if line[i] == b' ' {
-            return i;
-        }
-        i += 1;
-    }
-    i
+    bytes::scan::find(line, 0, line.len(), b' ')
 }
 
-// Where word n begins, from 0 on; the end of the line where there are fewer words.
-fn start(line: &[u8], n: usize) -> usize
-    ensures { λ r. ⌜ r ≤ length (now (line .entry)) ⌝ }
+// The first word. Words are what stands between single spaces, so a word may be empty.
+fn first(line: &[u8]) -> &[u8]
+    ensures { λ r. ⌜ now r ≡ firstWord (now (line .entry)) ⌝ }
 {
-    let mut at = 0;
-    let mut k = 0;
-    while k < n {
-        let e = space(line, at);
-        if e == line.len() {
-            return e;
-        }
-        at = e + 1;
-        k += 1;
+    let e = gap(line);
+    &line[0..e]
+}
+
+// What stands behind the first word and its space.
+fn rest(line: &[u8]) -> &[u8]
+    ensures { λ r. ⌜ now r ≡ behind (now (line .entry)) ⌝ }
+{
+    let e = gap(line);
+    if e == line.len() {
+        return &line[e..];
     }
-    at
+    &line[e + 1..]
 }
 
-// Word n, from 0 on. Words are what stands between single spaces, so a word may be empty.
-fn word(line: &[u8], n: usize) -> &[u8] {
-    let a = start(line, n);
-    let e = space(line, a);
-    &line[a..e]
+fn second(line: &[u8]) -> &[u8]
+    ensures { λ r. ⌜ now r ≡ word 1 (now (line .entry)) ⌝ }
+{
+    first(rest(line))
 }
 
-fn words(line: &[u8]) -> usize {
+fn third(line: &[u8]) -> &[u8]
+    ensures { λ r. ⌜ now r ≡ word 2 (now (line .entry)) ⌝ }
+{
+    second(rest(line))
+}
+
+fn fourth(line: &[u8]) -> &[u8]
+    ensures { λ r. ⌜ now r ≡ word 3 (now (line .entry)) ⌝ }
+{
+    third(rest(line))
+}
+
+fn counted(b: u8) -> usize
+    ensures { λ r. ⌜ (r ≡ pick (eqb b 32) 1 0) × (r ≤ 1) ⌝ }
+{
+    if b == b' ' { 1 } else { 0 }
+}
+
+fn count(line: &[u8]) -> usize
+    ensures { λ r. ⌜ r ≡ wordCount (now (line .entry)) ⌝ }
+{
     let mut n = 1;
-    let mut at = 0;
-    while at < line.len() {
-        let e = space(line, at);
-        if e == line.len() {
-            return n;
-        }
-        n += 1;
-        at = e + 1;
+    let mut i = 0;
+    while i < line.len() {
+        n += counted(line[i]);
+        i += 1;
     }
     n
 }
 
-fn same(a: &[u8], b: &[u8]) -> bool {
+fn same(a: &[u8], b: &[u8]) -> bool
+    ensures { λ r. ⌜ r ≡ eqs (now (a .entry)) (now (b .entry)) ⌝ }
+{
     if a.len() != b.len() {
         return false;
     }
+    let mut so = true;
     let mut i = 0;
     while i < a.len() {
-        if a[i] != b[i] {
-            return false;
-        }
+        so = so & (a[i] == b[i]);
         i += 1;
     }
-    true
+    so
 }
 
 // ---- numbers, keys and values
 
-fn is_digit(b: u8) -> bool {
+fn is_digit(b: u8) -> bool
+    ensures { λ r. ⌜ r ≡ isDigit b ⌝ }
+{
     (b'0' <= b) & (b <= b'9')
 }
 
-fn is_letter(b: u8) -> bool {
+fn is_letter(b: u8) -> bool
+    ensures { λ r. ⌜ r ≡ isLetter b ⌝ }
+{
     ((b'a' <= b) & (b <= b'z')) | ((b'A' <= b) & (b <= b'Z'))
+}
+
+fn cap(n: u16) -> u16
+    ensures { λ r. ⌜ r ≡ capped n ⌝ }
+{
+    if n < NO_SUCH { n } else { NO_SUCH }
 }
 
 // The number with a digit more; NO_SUCH for what is no digit, and once the number is over.
 fn more(n: u16, b: u8) -> u16
     requires { ⌜ n ≤ noSuch ⌝ }
-    ensures { λ r. ⌜ r ≤ noSuch ⌝ }
+    ensures { λ r. ⌜ r ≡ longer n b ⌝ }
 {
-    if b < b'0' {
-        return NO_SUCH;
+    if is_digit(b) {
+        return cap(n * 10 + (b - b'0') as u16);
     }
-    if b'9' < b {
-        return NO_SUCH;
-    }
-    let m = n * 10 + (b - b'0') as u16;
-    if m < NO_SUCH { m } else { NO_SUCH }
+    NO_SUCH
 }
 
 // The number that a word shows, NO_SUCH where it shows none or a larger one.
-fn number(w: &[u8]) -> u16 {
+fn number(w: &[u8]) -> u16
+    ensures { λ r. ⌜ r ≡ numberOf (now (w .entry)) ⌝ }
+{
     if w.len() == 0 {
         return NO_SUCH;
     }
@@ -141,146 +167,146 @@ fn number(w: &[u8]) -> u16 {
     n
 }
 
-fn is_plain(w: &[u8]) -> bool {
+fn is_plain(w: &[u8]) -> bool
+    ensures { λ r. ⌜ r ≡ plain (now (w .entry)) ⌝ }
+{
+    let mut so = true;
     let mut i = 0;
     while i < w.len() {
-        let b = w[i];
-        if is_digit(b) | is_letter(b) {
-            i += 1;
-        } else {
-            return false;
-        }
+        so = so & (is_digit(w[i]) | is_letter(w[i]));
+        i += 1;
     }
-    true
+    so
 }
 
-// Word n where it can be a key or a value; else nothing.
-fn text(line: &[u8], n: usize) -> &[u8]
-    ensures { λ r. ⌜ length (now r) ≤ mostText ⌝ }
+// A word where it can be a key or a value; else nothing.
+fn text(w: &[u8]) -> &[u8]
+    ensures { λ r. ⌜ now r ≡ textOf (now (w .entry)) ⌝ }
 {
-    let w = word(line, n);
-    if w.len() <= MOST_TEXT {
-        if is_plain(w) {
-            return w;
-        }
+    if (w.len() <= MOST_TEXT) & is_plain(w) {
+        return w;
     }
     &w[..0]
 }
 
+// The key of a line, where its third word can be one.
 pub fn key(line: &[u8]) -> &[u8]
-    ensures { λ r. ⌜ length (now r) ≤ mostText ⌝ }
+    ensures { λ r. ⌜ now r ≡ keyOf (now (line .entry)) ⌝ }
 {
-    text(line, 2)
+    text(third(line))
 }
 
+// The value of a line, where its fourth word can be one.
 pub fn value(line: &[u8]) -> &[u8]
-    ensures { λ r. ⌜ length (now r) ≤ mostText ⌝ }
+    ensures { λ r. ⌜ now r ≡ valueOf (now (line .entry)) ⌝ }
 {
-    text(line, 3)
+    text(fourth(line))
 }
 
 // ---- commands, by how many words they have
 
-fn of_one(w: &[u8]) -> Command {
-    if same(w, b"fence") {
-        return Command::Rule(Order::Fence);
-    }
-    if same(w, b"copy") {
-        return Command::Rule(Order::Copy);
-    }
-    if same(w, b"activate") {
-        return Command::Rule(Order::Activate);
-    }
-    if same(w, b"cancel") {
-        return Command::Rule(Order::Cancel);
-    }
-    Command::Unclear
+fn choose(b: bool, x: Command, y: Command) -> Command
+    ensures { λ r. ⌜ r ≡ pick b x y ⌝ }
+{
+    if b { x } else { y }
 }
 
-fn of_two(w: &[u8], n: u16) -> Command {
-    if same(w, b"deliver") {
-        return Command::Deliver(n);
-    }
-    if same(w, b"halt") {
-        return Command::Halt(n);
-    }
-    if same(w, b"remove") {
-        return Command::Rule(Order::Remove(n));
-    }
-    Command::Unclear
+fn of_one(w: &[u8]) -> Command
+    ensures { λ r. ⌜ r ≡ ofOne (now (w .entry)) ⌝ }
+{
+    let a = choose(
+        same(w, b"cancel"),
+        Command::Rule(Order::Cancel),
+        Command::Unclear,
+    );
+    let b = choose(same(w, b"activate"), Command::Rule(Order::Activate), a);
+    let c = choose(same(w, b"copy"), Command::Rule(Order::Copy), b);
+    choose(same(w, b"fence"), Command::Rule(Order::Fence), c)
+}
+
+fn of_two(w: &[u8], n: u16) -> Command
+    ensures { λ r. ⌜ r ≡ ofTwo (now (w .entry)) n ⌝ }
+{
+    let a = choose(
+        same(w, b"remove"),
+        Command::Rule(Order::Remove(n)),
+        Command::Unclear,
+    );
+    let b = choose(same(w, b"halt"), Command::Halt(n), a);
+    choose(same(w, b"deliver"), Command::Deliver(n), b)
 }
 
 // A query that has no value.
-fn bare(w: &[u8]) -> Command {
-    if same(w, b"r") {
-        return Command::Send(OP_READ);
-    }
-    if same(w, b"d") {
-        return Command::Send(OP_DELETE);
-    }
-    Command::Unclear
+fn bare(x: &[u8]) -> Command
+    ensures { λ r. ⌜ r ≡ bareOf (now (x .entry)) ⌝ }
+{
+    let a = choose(same(x, b"d"), Command::Send(OP_DELETE), Command::Unclear);
+    choose(same(x, b"r"), Command::Send(OP_READ), a)
 }
 
-fn of_three(line: &[u8]) -> Command {
-    if key(line).len() == 0 {
-        return Command::Unclear;
-    }
-    let w = word(line, 0);
-    let x = word(line, 1);
-    if same(w, b"enter") {
-        return Command::Enter(number(x));
-    }
-    if same(w, b"send") {
-        return bare(x);
-    }
-    Command::Unclear
+fn of_three(w: &[u8], x: &[u8], k: &[u8]) -> Command
+    ensures { λ r. ⌜ r ≡ ofThree (now (w .entry)) (now (x .entry)) (now (k .entry)) ⌝ }
+{
+    let a = choose(same(w, b"send"), bare(x), Command::Unclear);
+    let b = choose(same(w, b"enter"), Command::Enter(number(x)), a);
+    choose(k.len() == 0, Command::Unclear, b)
 }
 
-fn write(line: &[u8]) -> Command {
-    if key(line).len() == 0 {
-        return Command::Unclear;
-    }
-    if value(line).len() == 0 {
-        return Command::Unclear;
-    }
-    if same(word(line, 1), b"w") {
-        return Command::Send(OP_WRITE);
-    }
-    Command::Unclear
+fn write(x: &[u8], k: &[u8], v: &[u8]) -> Command
+    ensures { λ r. ⌜ r ≡ writeOf (now (x .entry)) (now (k .entry)) (now (v .entry)) ⌝ }
+{
+    let a = choose(same(x, b"w"), Command::Send(OP_WRITE), Command::Unclear);
+    choose((k.len() == 0) | (v.len() == 0), Command::Unclear, a)
 }
 
-fn open(w: &[u8], named: u16, fresh: u16) -> Command {
-    if same(w, b"b") {
-        return Command::Rule(Order::Open(false, named, fresh));
-    }
-    if same(w, b"a") {
-        return Command::Rule(Order::Open(true, named, fresh));
-    }
-    Command::Unclear
+fn open(x: &[u8], named: u16, fresh: u16) -> Command
+    ensures { λ r. ⌜ r ≡ openOf (now (x .entry)) named fresh ⌝ }
+{
+    let a = choose(
+        same(x, b"a"),
+        Command::Rule(Order::Open(true, named, fresh)),
+        Command::Unclear,
+    );
+    choose(
+        same(x, b"b"),
+        Command::Rule(Order::Open(false, named, fresh)),
+        a,
+    )
 }
 
-fn of_four(line: &[u8]) -> Command {
-    let w = word(line, 0);
-    if same(w, b"send") {
-        return write(line);
-    }
-    if same(w, b"open") {
-        return open(word(line, 1), number(word(line, 2)), number(word(line, 3)));
-    }
-    Command::Unclear
+fn of_four(line: &[u8]) -> Command
+    ensures { λ r. ⌜ r ≡ ofFour (now (line .entry)) ⌝ }
+{
+    let x = second(line);
+    let a = open(x, number(third(line)), number(fourth(line)));
+    let b = choose(same(first(line), b"open"), a, Command::Unclear);
+    choose(
+        same(first(line), b"send"),
+        write(x, key(line), value(line)),
+        b,
+    )
 }
 
-// The command of a line.
-pub fn read(line: &[u8]) -> Command {
-    if MOST_LINE < line.len() {
-        return Command::Unclear;
-    }
-    let n = words(line);
+// The command of a line of so many words.
+fn made(line: &[u8], n: usize) -> Command
+    ensures { λ r. ⌜ r ≡ ofCount (now (line .entry)) n ⌝ }
+{
+    let w = first(line);
     match n {
-        1 => of_one(line),
-        2 => of_two(word(line, 0), number(word(line, 1))),
-        3 => of_three(line),
+        1 => of_one(w),
+        2 => of_two(w, number(second(line))),
+        3 => of_three(w, second(line), key(line)),
         4 => of_four(line),
         _ => Command::Unclear,
     }
+}
+
+// The command of a line.
+pub fn read(line: &[u8]) -> Command
+    ensures { λ r. ⌜ r ≡ commandOf (now (line .entry)) ⌝ }
+{
+    if MOST_LINE < line.len() {
+        return Command::Unclear;
+    }
+    made(line, count(line))
 }

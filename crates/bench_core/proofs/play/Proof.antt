@@ -6,10 +6,13 @@ use Rattle.bench_core.proofs.play.Statement.{statement}
 use Rattle.bench_core.proofs.play.Tie as tie
 
 abbrev Inv-loop : tie.InvT-loop
-Inv-loop nodes₀ parcels₀ room₀ input₀ p₀ left₀ nodes parcels room input p left = (length nodes ≡ length nodes₀) × (length parcels ≡ length parcels₀) × (length room ≡ length room₀) × (length input ≡ length input₀)
+Inv-loop rec₀ nodes₀ parcels₀ input₀ p₀ left₀ rec nodes parcels input p left = (length rec ≡ length rec₀) × (length nodes ≡ length nodes₀) × (length parcels ≡ length parcels₀) × (length input ≡ length input₀)
 
 abbrev μ-loop : tie.MeasureT-loop
-μ-loop nodes₀ parcels₀ room₀ input₀ p₀ left₀ nodes parcels room input p left = left
+μ-loop rec₀ nodes₀ parcels₀ input₀ p₀ left₀ rec nodes parcels input p left = left
+
+start-requires : tie.Need-start-requires Inv-loop μ-loop
+start-requires c κs = search needs
 
 loop-holds : tie.Need-loop-holds Inv-loop μ-loop
 loop-holds c = search needs
@@ -62,6 +65,7 @@ play-spec =
     (tie.spec
     Inv-loop
     μ-loop
+    start-requires
     loop-holds
     sub-left
     turn-requires

@@ -1,24 +1,32 @@
--- Each byte is looked at once.
+-- The loop has seen the bytes before i; the word is plain if they and those from i on are.
 use Prim.Native.Nat.{_-_, _≤_}
-use lib.ListN.{length}
+use mathlib.Core.Path.{_≡_, refl, sym, _∙_}
+use mathlib.Core.Bool.{_&&_}
+use native.Mathlib.Omega.{arith}
+use lib.ListN.{length, drop}
+use Rattle.script.specs.Words.{plain}
+use Rattle.script.proofs.Laws.{plain-turn, plain-end}
 use borrow.Author.Needs.{needs}
 use Rattle.script.proofs.is_plain.Statement.{statement}
 use Rattle.script.proofs.is_plain.Tie as tie
 
 abbrev Inv-loop : tie.InvT-loop
-Inv-loop w i₀ i = i ≤ length w
+Inv-loop w so₀ i₀ so i = (i ≤ length w) × (plain w ≡ (so && plain (drop i w)))
 
 abbrev μ-loop : tie.MeasureT-loop
-μ-loop w i₀ i = length w - i
+μ-loop w so₀ i₀ so i = length w - i
 
 loop-holds : tie.Need-loop-holds Inv-loop μ-loop
-loop-holds c = search needs
+loop-holds c = (omega arith, refl)
 
-shared-slice-read-b : tie.Need-shared-slice-read-b Inv-loop μ-loop
-shared-slice-read-b c = search needs
+shared-slice-read-is-digit : tie.Need-shared-slice-read-is-digit Inv-loop μ-loop
+shared-slice-read-is-digit c = search needs
 
 is-digit-requires : tie.Need-is-digit-requires Inv-loop μ-loop
 is-digit-requires c κs = search needs
+
+shared-slice-read-is-letter : tie.Need-shared-slice-read-is-letter Inv-loop μ-loop
+shared-slice-read-is-letter c = search needs
 
 is-letter-requires : tie.Need-is-letter-requires Inv-loop μ-loop
 is-letter-requires c κs = search needs
@@ -30,13 +38,16 @@ loop-less : tie.Need-loop-less Inv-loop μ-loop
 loop-less c = search needs
 
 loop-again : tie.Need-loop-again Inv-loop μ-loop
-loop-again c = search needs
+loop-again c =
+    let s = c .before .before .before .before .before .before .before .args in
+    let l = c .before .before .before .before .before .loop in
+    (omega arith, cc (l .inv .1, plain-turn (s .w .now) (l .i) (l .so) (omega arith)))
 
 returns : tie.Need-returns Inv-loop μ-loop
-returns c = search needs
-
-returns-2 : tie.Need-returns-2 Inv-loop μ-loop
-returns-2 c = search needs
+returns c =
+    let s = c .before .before .before .args in
+    let l = c .before .loop in
+    sym (l .inv .1 ∙ plain-end (s .w .now) (l .i) (l .so) (omega arith))
 
 pub is-plain-spec : {M : Type 1} → statement M
 is-plain-spec =
@@ -45,11 +56,11 @@ is-plain-spec =
     Inv-loop
     μ-loop
     loop-holds
-    shared-slice-read-b
+    shared-slice-read-is-digit
     is-digit-requires
+    shared-slice-read-is-letter
     is-letter-requires
     add-i
     loop-less
     loop-again
-    returns
-    returns-2)
+    returns)

@@ -1,22 +1,27 @@
--- The number stays at most `NO_SUCH`.
+-- The loop has read the digits before i.
+use Rattle.script.proofs.Laws.{number-none, number-word}
 use Prim.Native.Nat.{_-_, _≤_}
-use lib.ListN.{length}
+use mathlib.Core.Path.{_≡_, refl, sym, _∙_}
+use native.Mathlib.Omega.{arith}
+use lib.ListN.{length, getD, drop}
 use Rattle.script.specs.Sizes.{noSuch}
+use Rattle.script.specs.Words.{numberFrom}
+use Rattle.script.proofs.Laws.{number-turn, number-end, longer-fits}
 use borrow.Author.Needs.{needs}
 use Rattle.script.proofs.number.Statement.{statement}
 use Rattle.script.proofs.number.Tie as tie
 
 abbrev Inv-loop : tie.InvT-loop
-Inv-loop w n₀ i₀ n i = (n ≤ noSuch) × (i ≤ length w)
+Inv-loop w n₀ i₀ n i = (i ≤ length w) × (n ≤ noSuch) × (numberFrom 0 w ≡ numberFrom n (drop i w))
 
 abbrev μ-loop : tie.MeasureT-loop
 μ-loop w n₀ i₀ n i = length w - i
 
 returns : tie.Need-returns Inv-loop μ-loop
-returns c = search needs
+returns c = sym (number-none _ (c .if1 .taken))
 
 loop-holds : tie.Need-loop-holds Inv-loop μ-loop
-loop-holds c = search needs
+loop-holds c = (omega arith, omega arith, refl)
 
 shared-slice-read-more : tie.Need-shared-slice-read-more Inv-loop μ-loop
 shared-slice-read-more c = search needs
@@ -31,10 +36,17 @@ loop-less : tie.Need-loop-less Inv-loop μ-loop
 loop-less c = search needs
 
 loop-again : tie.Need-loop-again Inv-loop μ-loop
-loop-again c = search needs
+loop-again c =
+    let s = c .before .before .before .before .before .before .args in
+    let l = c .before .before .before .loop in
+    let m = c .more .ensures in
+    (omega arith, omega (arith, m, longer-fits (l .n) (getD (s .w .now) (l .i) 0)), cc (l .inv .2, m, number-turn (s .w .now) (l .i) (l .n) (omega arith)))
 
 returns-2 : tie.Need-returns-2 Inv-loop μ-loop
-returns-2 c = search needs
+returns-2 c =
+    let s = c .before .before .before .before .args in
+    let l = c .before .loop in
+    sym (number-word (s .w .now) (c .before .before .if1 .left) ∙ l .inv .2 ∙ number-end (s .w .now) (l .i) (l .n) (l .inv .1) (omega arith))
 
 pub number-spec : {M : Type 1} → statement M
 number-spec =

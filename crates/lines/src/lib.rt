@@ -1,0 +1,3 @@
+// The lines that the bench reads and writes.
+pub mod input;
+pub mod output;

@@ -1,0 +1,51 @@
+-- Commands of three words: each word is compared, the first that fits decides.
+use Rattle.script.specs.Commands.{ofThree}
+use borrow.Author.Needs.{needs}
+use Rattle.script.proofs.of_three.Statement.{statement}
+use Rattle.script.proofs.of_three.Tie as tie
+
+slice-aggregate-same : tie.Need-slice-aggregate-same
+slice-aggregate-same c = search needs
+
+same-requires : tie.Need-same-requires
+same-requires c κs = search needs
+
+bare-requires : tie.Need-bare-requires
+bare-requires c κs = search needs
+
+choose-requires : tie.Need-choose-requires
+choose-requires c κs = search needs
+
+slice-aggregate-same-2 : tie.Need-slice-aggregate-same-2
+slice-aggregate-same-2 c = search needs
+
+same-requires-2 : tie.Need-same-requires-2
+same-requires-2 c κs = search needs
+
+number-requires : tie.Need-number-requires
+number-requires c κs = search needs
+
+choose-requires-2 : tie.Need-choose-requires-2
+choose-requires-2 c κs = search needs
+
+choose-requires-3 : tie.Need-choose-requires-3
+choose-requires-3 c κs = search needs
+
+returns : tie.Need-returns
+unfolding ofThree
+returns c = cc
+
+pub of-three-spec : {M : Type 1} → statement M
+of-three-spec =
+    tie.close
+    (tie.spec
+    slice-aggregate-same
+    same-requires
+    bare-requires
+    choose-requires
+    slice-aggregate-same-2
+    same-requires-2
+    number-requires
+    choose-requires-2
+    choose-requires-3
+    returns)
