@@ -16,12 +16,13 @@ use Rattle.steps.specs.declared.Chain.{Chain}
 use Rattle.steps.specs.declared.Outcome.{Outcome}
 use Rattle.steps.specs.Chain.{startChain, startCall, startRows}
 use Rattle.steps.specs.Node.{NodeGives}
-use Rattle.steps.specs.Relay.{Way, node, client, outcomeOf, outcomeNumber, packetSent, relayCall, RelayGives}
+use Rattle.steps.specs.Relay.{node, outcomeOf, outcomeNumber, packetSent, relayCall, RelayGives}
 use Rattle.steps.specs.Control.{ChainGives, FenceGives, CopyGives, EnterGives, openStep, openCall, openRows, activateCall, cancelCall, removeCall}
 use Rattle.steps.proofs.ChainRules.{start-judged}
 use Rattle.steps.proofs.Control.{open-judged}
 use Rattle.steps.proofs.ControlViews.{on-record, open-view}
 use Rattle.steps.proofs.NodeGives.{done-at-0}
+use Rattle.steps.proofs.RelaySends.{relay-number}
 use Rattle.claims.specs.Bytes.{EventB, asking, relaying, stepping, opening, fencing, copying, activating, cancelling, removing, entering, halting, StateB, afterRelay, afterNode, afterControl, afterControlAt, execB, EnabledB, ReachB, startB, stepB}
 use Rattle.claims.specs.Events.{StartEvent, BlankEvent, NodeEvent, RelayEvent, ControlEvent, OpenEvent, FenceEvent, EnterEvent, CopyEvent}
 use Rattle.claims.specs.Caller.{Caller, begins, asks, relays, steps, opens, fences, copies, activates, cancels, removes, enters, halts}
@@ -33,12 +34,6 @@ node-event {t} {p} {out} {n} {t′} {out′} g = record {
   event = λ s j e. let h = subst (λ (t : List ℕ). NodeGives t p out n t′ out′) (sym e) g in λ i. afterNode j p out s (sym (h .number) i) (sym (h .table) i) (sym (h .outlet) i);
 }
 
--- the number of the outcome is the number of the call
-pub outcome-number : (o : Out Way) → outcomeNumber (outcomeOf o) ≡ numberOf o
-outcome-number (refuse n) = refl
-outcome-number (ok (node j q)) = refl
-outcome-number (ok (client q)) = refl
-
 pub relay-event : {r : Chain} {p out : List ℕ} {o : Outcome} {out′ : List ℕ} → RelayGives r p out o out′ → RelayEvent r p out o out′
 unfolding execB
 relay-event {r} {p} {out} {o} {out′} g = record { asks = event asking; relays = event relaying }
@@ -47,7 +42,7 @@ relay-event {r} {p} {out} {o} {out′} g = record { asks = event asking; relays 
         → afterRelay (f p out) s (numberOf (relayCall (s .chain) p out)) (left out (λ w. sentIn out (packetSent w)) (relayCall (s .chain) p out)) ≡ afterRelay (f p out) s (outcomeNumber o) out′
     event f s e =
         let h = subst (λ (r : Chain). RelayGives r p out o out′) (sym e) g in
-        let number = ap outcomeNumber (h .outcome) ∙ outcome-number (relayCall (s .chain) p out) in
+        let number = relay-number h in
         λ i. afterRelay (f p out) s (sym number i) (sym (h .outlet) i)
 
 -- ---- the controller, on the record alone

@@ -15,7 +15,7 @@ use Rattle.steps.specs.Chain.{mostNodes, members, ChainRules, startChain, start
 use Rattle.steps.specs.Relay.{outcomeOf, relayCall}
 use Rattle.steps.specs.Control.{copyBytes, openCall, fenceCall, copyCall, activateCall, cancelCall, removeCall}
 use Rattle.steps.proofs.ChainPlaces.{length-members}
-use Rattle.steps.proofs.RelaySends.{SoundChain}
+use Rattle.steps.proofs.RelaySends.{SoundChain, outcome-number}
 use Rattle.chain.proofs.Places.{by-place}
 use Rattle.numbers.specs.Record.{recordSize, chainOf, recordOf, numbersOf, placesOf}
 use Rattle.numbers.proofs.Record.{places-of}
@@ -27,7 +27,7 @@ use Rattle.register.proofs.Laws.{leaves-is, both, done}
 use Rattle.claims.specs.Bytes.{EventB, asking, relaying, stepping, opening, fencing, copying, activating, cancelling, removing, entering, halting, StateB, afterRelay, afterControl, afterControlAt, execB, EnabledB, StartB, ReachB, startB, stepB, RunB, stayB, moreB}
 use Rattle.claims.specs.Exports.{relayNumber, ExportStart, ExportCaller, begins, asks, relays, steps, opens, fences, copies, activates, cancels, removes, enters, halts}
 use Rattle.claims.proofs.Bridge.{bridge}
-use Rattle.claims.proofs.Events.{outcome-number, blank-gives, openTable, open-made, open-kept, caller-reaches}
+use Rattle.claims.proofs.Events.{blank-gives, openTable, open-made, open-kept, caller-reaches}
 use Rattle.claims.proofs.Exports.{place-unused, sized, stands-for, left-stands, relay-on, open-on, fence-on, copy-on, activate-on, cancel-on, remove-on, enter-on, code-number, export-caller-is}
 
 -- what a call gives, as an export leaves it

@@ -25,7 +25,7 @@ use Rattle.steps.specs.Node.{Sent, nodeStep, nodeTests, whenFound, isUnnumbered
 use Rattle.steps.specs.Relay.{relayStep, relayTests, packetSent}
 use Rattle.steps.specs.Control.{openStep, openTests, fenceStep, fenceTests, copyStep, copyTests, activateStep, activateTests, cancelStep, removeStep, removeTests, enterStep, enterTests}
 use Rattle.steps.proofs.Node.{reflect-unnumbered}
-use Rattle.steps.proofs.NodeSends.{never-written}
+use Rattle.steps.proofs.NodeSends.{never-acks}
 use Rattle.protocol.specs.System.{State, Event, fromClient, noPacket, atRelay, atNode, opens, fences, copies, activates, cancels, removes, enters, halts, Entry, ghosts, madeBy, Enabled, Reach, start, step}
 use Rattle.protocol.specs.Inv.{SlotGood, TableGood, Inv}
 use Rattle.protocol.proofs.Prims.{awake-live}
@@ -221,7 +221,7 @@ no-node-acks = every-entry (λ x. (j : ℕ) (p q : Packet) → x .event ≡ atNo
       where
         none : Mem q [] → ⊥
         none m = elim m [ ]
-    made t p q (ok x) e m a = never-written t p x e (ap (λ (y : Packet). y .head .answer) (sym (eq-of-singleton m)) ∙ a)
+    made t p q (ok x) e m a = never-acks t p x e (ap (λ (y : Packet). y .head .answer) (sym (eq-of-singleton m)) ∙ a)
 
     by : (s : State) (e : Event) (j : ℕ) (p q : Packet) → e ≡ atNode j p → Mem q (entryOf e s .made) → q .head .answer ≡ answerWritten → ⊥
     by s e j p q is m a = made (s .table j) p q _ refl (subst (λ (e : Event). Mem q (entryOf e s .made)) is m) a

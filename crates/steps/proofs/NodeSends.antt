@@ -209,9 +209,9 @@ module _ (t : Table) (p : Packet) (x : Sent) (g : SoundTable t) (s : Sound p) wh
           (let h = c .fits (omega arith) in omega arith)
 
 -- no node makes answer 4
-pub never-written : (t : Table) (p : Packet) (x : Sent) → nodeStep t p ≡ ok x → x .packet .head .answer ≡ answerWritten → ⊥
+pub never-acks : (t : Table) (p : Packet) (x : Sent) → nodeStep t p ≡ ok x → x .packet .head .answer ≡ answerWritten → ⊥
 unfolding reply
-never-written t p x e w = go (nodeView t p x e .case)
+never-acks t p x e w = go (nodeView t p x e .case)
   where
     told : {h : Held} {answer : ℕ} {value : List ℕ} → Tells h answer value → answer ≡ answerWritten → ⊥
     told (tellsNoKey h a n) w = omega arith

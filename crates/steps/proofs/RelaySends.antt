@@ -142,7 +142,7 @@ relay-leaves r p out w b hw hs hh e =
 
 -- ---- the outcome
 
-outcome-number : (o : Out Way) → outcomeNumber (outcomeOf o) ≡ numberOf o
+pub outcome-number : (o : Out Way) → outcomeNumber (outcomeOf o) ≡ numberOf o
 outcome-number (refuse n) = refl
 outcome-number (ok (node j p)) = refl
 outcome-number (ok (client p)) = refl
