@@ -27,6 +27,10 @@ taken n l e = go (decLt n mostNodes)
     go (yes h) = let m : n ≡ min n mostNodes = omega arith in ap (λ (k : ℕ). take k l) m
     go (no h) = take-all n l (omega arith) ∙ sym (take-all (min n mostNodes) l (omega arith))
 
+-- as many places as are used hold the members
+pub used-are : (n : ℕ) (l : List ℕ) {k : ℕ} → length l ≡ mostNodes → k ≡ min n mostNodes → take k l ≡ take n l
+used-are n l e f = ap (λ (k : ℕ). take k l) f ∙ sym (taken n l e)
+
 pub length-used : (n : ℕ) (l : List ℕ) → length l ≡ mostNodes → length (take n l) ≡ min n mostNodes
 length-used n l e = length-take n l ∙ ap (min n) e
 

@@ -29,7 +29,8 @@ returns : tie.Need-returns
 returns c = search needs
 
 returns-2 : tie.Need-returns-2
-returns-2 c = cc
+returns-2 c =
+    c .joining .ensures ∙ sym (ap (changeOk (c .before .before .before .before .args .c)) (c .before .before .ch .given .1))
 
 returns-3 : tie.Need-returns-3
 returns-3 c =

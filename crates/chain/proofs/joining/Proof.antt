@@ -1,6 +1,10 @@
 -- `chain::joining` meets its contract.
+use Prim.Native.Nat.{ℕ}
+use mathlib.Core.Path.{ap₂}
+use mathlib.Core.Bool.{Bool, _&&_, _||_, not}
+use lib.Dec.{ltb, leb, eqb}
 use borrow.Author.Needs.{needs}
-use Rattle.steps.specs.Chain.{joiningOk}
+use Rattle.steps.specs.Chain.{mostNodes, joiningOk}
 use Rattle.chain.proofs.joining.Statement.{statement}
 use Rattle.chain.proofs.joining.Tie as tie
 
@@ -18,7 +22,13 @@ wide-requires c κs = search needs
 
 returns : tie.Need-returns
 unfolding joiningOk
-returns c = cc
+returns c =
+    let looked = c .before .before .before .before .before .before .before .before in
+    let s = looked .before .before .args in
+    let j = s .j in
+    ap₂ _&&_ (looked .before .member .ensures)
+    (ap₂ (λ (b : Bool) (n : ℕ). not b && (eqb (j .fresh) (s .c .highest) && (ltb n mostNodes && (leb (j .next) (s .c .count) && (j .fenced || eqb (j .next) 0))))) (looked .member2 .ensures)
+    (c .before .before .before .before .wide .ensures .0))
 
 pub joining-spec : {M : Type 1} → statement M
 joining-spec =

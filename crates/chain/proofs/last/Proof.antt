@@ -1,10 +1,12 @@
 -- `chain::last` meets its contract.
-use mathlib.Core.Path.{_≡_, sym, _∙_}
+use Prim.Native.Nat.{ℕ, _-_}
+use mathlib.Core.Path.{_≡_, sym, ap₂, _∙_}
+use mathlib.Core.List.{List}
 use native.Mathlib.Omega.{arith}
-use lib.ListN.{length, List·getD-eq-default}
+use lib.ListN.{length, getD, List·getD-eq-default}
 use borrow.Author.Needs.{needs}
 use Rattle.steps.specs.Chain.{mostNodes, members}
-use Rattle.chain.proofs.Ids.{taken, length-used, last-at}
+use Rattle.chain.proofs.Ids.{used-are, length-used, last-at}
 use Rattle.chain.proofs.last.Statement.{statement}
 use Rattle.chain.proofs.last.Tie as tie
 
@@ -27,7 +29,10 @@ returns-2 : tie.Need-returns-2
 returns-2 c =
     let s = c .before .before .before .before .args .c in
     let eight : length (s .places) ≡ mostNodes = search needs in
-    cc (taken (s .length) (s .places) eight, length-used (s .length) (s .places) eight, last-at (members s))
+    let used = c .before .before .before .used .ensures .0 in
+    c .at .ensures
+    ∙ ap₂ (λ (l : List ℕ) (k : ℕ). getD l (k - 1) 0) (used-are (s .length) (s .places) eight used) (used ∙ sym (length-used (s .length) (s .places) eight))
+    ∙ sym (last-at (members s))
 
 pub last-spec : {M : Type 1} → statement M
 last-spec = tie.close (tie.spec used-requires returns sub-at at-requires returns-2)

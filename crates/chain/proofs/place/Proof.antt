@@ -1,10 +1,12 @@
 -- `chain::place` meets its contract.
-use mathlib.Core.Path.{_≡_}
+use Prim.Native.Nat.{ℕ, _+_}
+use mathlib.Core.Path.{_≡_, ap, _∙_}
+use mathlib.Core.List.{List}
 use native.Mathlib.Nat.{zero-add}
 use lib.ListN.{length}
 use borrow.Author.Needs.{needs}
 use Rattle.steps.specs.Chain.{mostNodes, members, placeOf}
-use Rattle.chain.proofs.Ids.{taken}
+use Rattle.chain.proofs.Ids.{used-are}
 use Rattle.chain.proofs.place.Statement.{statement}
 use Rattle.chain.proofs.place.Tie as tie
 
@@ -18,7 +20,9 @@ returns : tie.Need-returns
 returns c =
     let s = c .before .before .before .args in
     let eight : length (s .c .places) ≡ mostNodes = search needs in
-    cc (taken (s .c .length) (s .c .places) eight, zero-add (placeOf (s .id) (members (s .c))))
+    c .seek .ensures
+    ∙ ap (λ (l : List ℕ). 0 + placeOf (s .id) l) (used-are (s .c .length) (s .c .places) eight (c .before .used .ensures .0))
+    ∙ zero-add (placeOf (s .id) (members (s .c)))
 
 pub place-spec : {M : Type 1} → statement M
 place-spec = tie.close (tie.spec used-requires seek-requires returns)
