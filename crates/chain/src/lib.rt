@@ -1,11 +1,11 @@
-// The chain record: its rules, the ids of its chain, and the eight places with one id inserted or removed.
+// The chain record: its rules, the ids of its chain, its state of change, and the eight places with one id inserted or removed.
 ghost use mathlib.Core.Path.{_≡_};
 ghost use Prim.Native.Nat.{_+_, _<_, _≤_, min};
 ghost use lib.ListN.{getD, take, drop};
 ghost use lib.Dec.{ltb, eqb};
 ghost use Rattle.store.specs.Table.{allZero};
 ghost use Rattle.wire.specs.Numbers.{pick, numberOf};
-ghost use Rattle.steps.specs.Chain.{mostNodes, members, memb, firstOf, lastOf, nextOf, placeOf, insertAt, removeAt, largest, joiningOk, changeOk, chainOk, startChain, startCall};
+ghost use Rattle.steps.specs.Chain.{mostNodes, members, memb, firstOf, lastOf, nextOf, placeOf, insertAt, removeAt, largest, joiningOk, isOpen, changeOk, chainOk, withChange, startChain, startCall};
 ghost use Rattle.chain.specs.Ids.{idsOk};
 use steps::Chain;
 use steps::Change;
@@ -181,6 +181,36 @@ pub fn good(c: Chain) -> bool
             & (zeros(places, length)
                 & (!session.same(Session(0))
                     & (((0 < c.count) & (wide(c.count) <= MOST_SLOTS)) & change(c)))))
+}
+
+// ---- the state of change
+
+pub fn is_open(ch: Change) -> bool
+    ensures { λ r. ⌜ r ≡ isOpen ch ⌝ }
+{
+    match ch {
+        Change::Still => false,
+        Change::Before(_) => true,
+        Change::After(_) => true,
+    }
+}
+
+// The record with another state of change.
+pub fn with_change(c: Chain, ch: Change) -> Chain
+    ensures { λ r. ⌜ r ≡ withChange c ch ⌝ }
+{
+    let places = c.places;
+    let wiring = c.wiring;
+    let session = c.session;
+    Chain {
+        length: c.length,
+        places: places,
+        wiring: wiring,
+        session: session,
+        highest: c.highest,
+        count: c.count,
+        change: ch,
+    }
 }
 
 // ---- one id inserted or removed

@@ -32,18 +32,18 @@ use Rattle.node.proofs.step.Statement.{statement as node-promise}
 use Rattle.node.proofs.step.Met.{met as node-met}
 use Rattle.relay.proofs.step.Statement.{statement as relay-promise}
 use Rattle.relay.proofs.step.Met.{met as relay-met}
-use Rattle.control.proofs.open.Statement.{statement as open-promise}
-use Rattle.control.proofs.open.Met.{met as open-met}
+use Rattle.record.proofs.open.Statement.{statement as open-promise}
+use Rattle.record.proofs.open.Met.{met as open-met}
 use Rattle.control.proofs.fence.Statement.{statement as fence-promise}
 use Rattle.control.proofs.fence.Met.{met as fence-met}
 use Rattle.control.proofs.copy.Statement.{statement as copy-promise}
 use Rattle.control.proofs.copy.Met.{met as copy-met}
-use Rattle.control.proofs.activate.Statement.{statement as activate-promise}
-use Rattle.control.proofs.activate.Met.{met as activate-met}
-use Rattle.control.proofs.cancel.Statement.{statement as cancel-promise}
-use Rattle.control.proofs.cancel.Met.{met as cancel-met}
-use Rattle.control.proofs.remove.Statement.{statement as remove-promise}
-use Rattle.control.proofs.remove.Met.{met as remove-met}
+use Rattle.record.proofs.activate.Statement.{statement as activate-promise}
+use Rattle.record.proofs.activate.Met.{met as activate-met}
+use Rattle.record.proofs.cancel.Statement.{statement as cancel-promise}
+use Rattle.record.proofs.cancel.Met.{met as cancel-met}
+use Rattle.record.proofs.remove.Statement.{statement as remove-promise}
+use Rattle.record.proofs.remove.Met.{met as remove-met}
 use Rattle.control.proofs.enter.Statement.{statement as enter-promise}
 use Rattle.control.proofs.enter.Met.{met as enter-met}
 use Rattle.chain.proofs.start.Statement.{statement as start-promise}
@@ -190,7 +190,7 @@ node-code = node-met
 pub relay-code : {M : Type 1} → relay-promise M
 relay-code = relay-met
 
--- control::open
+-- record::open
 pub open-code : {M : Type 1} → open-promise M
 open-code = open-met
 
@@ -202,15 +202,15 @@ fence-code = fence-met
 pub copy-code : {M : Type 1} → copy-promise M
 copy-code = copy-met
 
--- control::activate
+-- record::activate
 pub activate-code : {M : Type 1} → activate-promise M
 activate-code = activate-met
 
--- control::cancel
+-- record::cancel
 pub cancel-code : {M : Type 1} → cancel-promise M
 cancel-code = cancel-met
 
--- control::remove
+-- record::remove
 pub remove-code : {M : Type 1} → remove-promise M
 remove-code = remove-met
 

@@ -33,7 +33,7 @@ fn relaying(c: Chain, packet: &[u8], out: &mut [u8]) -> Outcome
 fn opening(c: Chain, after: bool, named: u16, fresh: u16) -> Ruling
     ensures { λ r. ⌜ OpenEvent c after named fresh (r .number) (r .chain) ⌝ }
 {
-    control::open(c, after, named, fresh)
+    record::open(c, after, named, fresh)
 }
 
 fn fencing(c: Chain, table: &mut [u8]) -> Ruling
@@ -51,19 +51,19 @@ fn copying(c: Chain, i: u16, named: &[u8], fresh: &mut [u8]) -> Ruling
 fn activating(c: Chain) -> Ruling
     ensures { λ r. ⌜ ControlEvent activates c (r .number) (r .chain) ⌝ }
 {
-    control::activate(c)
+    record::activate(c)
 }
 
 fn cancelling(c: Chain) -> Ruling
     ensures { λ r. ⌜ ControlEvent cancels c (r .number) (r .chain) ⌝ }
 {
-    control::cancel(c)
+    record::cancel(c)
 }
 
 fn removing(c: Chain, id: u16) -> Ruling
     ensures { λ r. ⌜ ControlEvent (removes id) c (r .number) (r .chain) ⌝ }
 {
-    control::remove(c, id)
+    record::remove(c, id)
 }
 
 fn entering(c: Chain, table: &mut [u8], id: u16, key: &[u8; 16]) -> u8

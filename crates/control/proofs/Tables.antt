@@ -6,12 +6,12 @@ use mathlib.Core.List.{List, []}
 use native.Mathlib.Omega.{arith}
 use lib.ListN.{length}
 use lib.Dec.{eqb}
-use Rattle.wire.specs.Numbers.{Out, ok, refuse, numberOf, left, broken, outOfTurn, notMeant, otherCount, fenceAbove, noFreeSlot, guard, pick}
+use Rattle.wire.specs.Numbers.{Out, ok, refuse, numberOf, left, broken, outOfTurn, notMeant, otherCount, fenceAbove, noFreeSlot, guard, pick, firstNumber}
 use Rattle.wire.specs.Version.{zeroVersion, lessStamp}
 use Rattle.wire.specs.Packet.{keySize}
 use Rattle.wire.specs.declared.Stamp.{Stamp}
 use Rattle.wire.specs.declared.Version.{Version}
-use Rattle.wire.proofs.Numbers.{pass-guard, stop-guard}
+use Rattle.wire.proofs.Numbers.{pass-guard, stop-guard, judge-refused, all-passed, judge-done}
 use Rattle.store.specs.Table.{tableOf, tableOk, TableRules, countOf, mostSlots, fenceBytes, Slot, slots, wholeSlots, find, lowestFree, slot, entered, enteredSlot, Write, setRow, writeBytes}
 use Rattle.store.specs.declared.Found.{Found}
 use Rattle.store.specs.declared.Found.the-variants.{At, Nothing}
@@ -30,8 +30,6 @@ use Rattle.steps.proofs.ChainRules.{reflect-chain}
 use Rattle.steps.proofs.Control.{holds, holds-and}
 use Rattle.steps.proofs.ControlViews.{fence-call, copy-call, copy-view}
 use Rattle.control.specs.Turn.{fenceTurn, fenceAll, copyTurn, copyAll, nextChange, enterTurn, enterFirst}
-use Rattle.record.specs.Turn.{firstNumber}
-use Rattle.record.proofs.Laws.{judge-refused, all-passed, judge-done}
 
 -- a test of an open change that does not look at it
 pub while-open : (ch : Change) (b : Bool) → (isOpen ch && b) ≡ whenOpen ch (λ j. b)

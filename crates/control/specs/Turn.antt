@@ -4,7 +4,7 @@ use mathlib.Core.List.{List, [], _∷_}
 use mathlib.Core.Bool.{Bool, _&&_, _||_, not}
 use lib.Dec.{eqb}
 use lib.ListN.{length}
-use Rattle.wire.specs.Numbers.{Test, test, broken, changeOpen, outOfTurn, notMeant, otherCount, keyThere, fenceAbove}
+use Rattle.wire.specs.Numbers.{Test, test, firstNumber, broken, changeOpen, outOfTurn, notMeant, otherCount, keyThere, fenceAbove}
 use Rattle.wire.specs.Version.{lessStamp}
 use Rattle.wire.specs.declared.Stamp.{Stamp}
 use Rattle.store.specs.Table.{tableOf, tableOk, find}
@@ -13,7 +13,6 @@ use Rattle.steps.specs.declared.Change.the-variants.{Still, Before, After}
 use Rattle.steps.specs.declared.Chain.{Chain}
 use Rattle.steps.specs.Chain.{members, memb, chainOk, isOpen, whenOpen, joining}
 use Rattle.steps.specs.Node.{isNothing}
-use Rattle.record.specs.Turn.{firstNumber}
 use Rattle.steps.specs.Control.{fenceTests, copyTests}
 
 -- fence: the named table's id, slot count and fence

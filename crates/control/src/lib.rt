@@ -1,22 +1,17 @@
-// The controller steps. Those on the record alone stand in the crate record; here are those over tables: fence, copy, enter.
+// The controller steps that touch a table: fence, copy, enter.
 ghost use mathlib.Core.Path.{_≡_};
 ghost use mathlib.Core.Bool.{_||_, not};
 ghost use Prim.Native.Nat.{_<_};
 ghost use lib.Dec.{eqb};
+ghost use Rattle.wire.specs.Numbers.{firstNumber};
 ghost use Rattle.store.specs.Table.{find, slots, wholeSlots, enteredSlot};
 ghost use Rattle.table.specs.Parts.{slotStored};
 ghost use Rattle.steps.specs.Chain.{whenOpen};
 ghost use Rattle.steps.specs.Node.{isNothing};
 ghost use Rattle.steps.specs.Control.{FenceGives, CopyGives, EnterGives, markedChange};
-ghost use Rattle.record.specs.Turn.{firstNumber};
 ghost use Rattle.control.specs.Turn.{fenceTurn, fenceAll, copyTurn, copyAll, nextChange, enterTurn, enterFirst};
-pub use record::activate;
-pub use record::cancel;
-use record::choose;
-use record::is_open;
-pub use record::open;
-pub use record::remove;
-use record::with_change;
+use chain::is_open;
+use chain::with_change;
 use steps::Chain;
 use steps::Change;
 use steps::Joining;
@@ -33,6 +28,7 @@ use wire::OTHER_COUNT;
 use wire::OUT_OF_TURN;
 use wire::Stamp;
 use wire::Version;
+use wire::choose;
 
 // ---- fence
 

@@ -5,12 +5,13 @@ ghost use mathlib.Core.Bool.{not};
 ghost use mathlib.Core.List.{[], _∷_};
 ghost use Prim.Native.Nat.{_<_};
 ghost use lib.Dec.{ltb};
-ghost use Rattle.wire.specs.Numbers.{pick, test, broken, outOfTurn};
+ghost use Rattle.wire.specs.Numbers.{pick, test, firstNumber, broken, outOfTurn};
 ghost use Rattle.wire.specs.Version.{nextSession};
-ghost use Rattle.steps.specs.Chain.{mostNodes, chainOk, isOpen, whenOpen, withChange, withMembers};
+ghost use Rattle.steps.specs.Chain.{mostNodes, chainOk, isOpen, whenOpen, withMembers};
 ghost use Rattle.steps.specs.Control.{ChainGives, changeFor, opened, openTests, openCall, becomesFirst, joinPlace, joinId, activated, activateTests, activateCall, cancelCall, removed, removeTests, removeCall};
-ghost use Rattle.record.specs.Turn.{firstNumber};
 use chain::MOST_NODES;
+use chain::is_open;
+use chain::with_change;
 use steps::Chain;
 use steps::Change;
 use steps::Joining;
@@ -24,40 +25,7 @@ use wire::NOT_MEANT;
 use wire::ONLY_NODE;
 use wire::OUT_OF_TURN;
 use wire::Session;
-
-pub fn choose(b: bool, x: u8, y: u8) -> u8
-    ensures { λ r. ⌜ r ≡ pick b x y ⌝ }
-{
-    if b { x } else { y }
-}
-
-pub fn is_open(ch: Change) -> bool
-    ensures { λ r. ⌜ r ≡ isOpen ch ⌝ }
-{
-    match ch {
-        Change::Still => false,
-        Change::Before(_) => true,
-        Change::After(_) => true,
-    }
-}
-
-// The record with another state of change.
-pub fn with_change(c: Chain, ch: Change) -> Chain
-    ensures { λ r. ⌜ r ≡ withChange c ch ⌝ }
-{
-    let places = c.places;
-    let wiring = c.wiring;
-    let session = c.session;
-    Chain {
-        length: c.length,
-        places: places,
-        wiring: wiring,
-        session: session,
-        highest: c.highest,
-        count: c.count,
-        change: ch,
-    }
-}
+use wire::choose;
 
 // ---- open
 

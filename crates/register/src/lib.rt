@@ -39,7 +39,7 @@ pub extern "C" fn register_open(rec: &mut [u32], kind: u8, named: u16, fresh: u1
     ensures { λ r. ⌜ OpenLeaves (now (rec .entry)) kind named fresh r (now (rec .exit)) ⌝ }
 {
     if (kind == 1) | (kind == 2) {
-        let r = control::open(numbers::record_of(rec), kind == 2, named, fresh);
+        let r = record::open(numbers::record_of(rec), kind == 2, named, fresh);
         return numbers::settle(rec, r);
     }
     BROKEN
@@ -65,7 +65,7 @@ pub extern "C" fn register_copy(rec: &mut [u32], slot: u16, named: &[u8], fresh:
 pub extern "C" fn register_activate(rec: &mut [u32]) -> u8
     ensures { λ r. ⌜ ActivateLeaves (now (rec .entry)) r (now (rec .exit)) ⌝ }
 {
-    let r = control::activate(numbers::record_of(rec));
+    let r = record::activate(numbers::record_of(rec));
     numbers::settle(rec, r)
 }
 
@@ -73,7 +73,7 @@ pub extern "C" fn register_activate(rec: &mut [u32]) -> u8
 pub extern "C" fn register_cancel(rec: &mut [u32]) -> u8
     ensures { λ r. ⌜ CancelLeaves (now (rec .entry)) r (now (rec .exit)) ⌝ }
 {
-    let r = control::cancel(numbers::record_of(rec));
+    let r = record::cancel(numbers::record_of(rec));
     numbers::settle(rec, r)
 }
 
@@ -81,7 +81,7 @@ pub extern "C" fn register_cancel(rec: &mut [u32]) -> u8
 pub extern "C" fn register_remove(rec: &mut [u32], id: u16) -> u8
     ensures { λ r. ⌜ RemoveLeaves (now (rec .entry)) id r (now (rec .exit)) ⌝ }
 {
-    let r = control::remove(numbers::record_of(rec), id);
+    let r = record::remove(numbers::record_of(rec), id);
     numbers::settle(rec, r)
 }
 

@@ -1,13 +1,13 @@
 -- Laws of tests and refusals: what a test that was passed says, what a test reflects, and that a ladder of tests gives the first row that applies.
 use Prim.Native.Nat.{ℕ, _<_, _≤_}
-use mathlib.Core.Path.{_≡_, refl, sym, ap, _∙_, subst}
+use mathlib.Core.Path.{_≡_, refl, sym, ap, ap₂, _∙_, subst}
 use mathlib.Core.Bool.{Bool, true, false, true≢false, false≢true, not, _&&_, _||_}
 use mathlib.Core.Logic.{_⊎_, inl, inr, _↔_, ⊎-elim}
 use mathlib.Core.List.{List, [], _∷_, _++_, List·Memᴰ as Mem, List·Memᴰ·head as here, List·Memᴰ·tail as there}
 use native.Mathlib.Omega.{arith}
 use lib.Dec.{ltb, leb, eqb}
 use borrow.Author.Tests.{ltb-true, ltb-false, leb-true, leb-false, eqb-true, eqb-false, not-true, not-false}
-use Rattle.wire.specs.Numbers.{Out, refuse, ok, pick, guard, Test, judge, Case, under, Applies, First, Judged, priority, numberOf, left}
+use Rattle.wire.specs.Numbers.{Out, refuse, ok, pick, guard, Test, judge, firstNumber, Case, under, Applies, First, Judged, priority, numberOf, left}
 
 -- ---- if-then-else
 
@@ -20,6 +20,10 @@ pub pick-false : {A : Type 0} (b : Bool) (x y : A) → b ≡ false → pick b x 
 unfolding pick
 pick-false true x y e = absurd (true≢false e)
 pick-false false x y e = refl
+
+-- one row of a number that is made from its last row up
+pub rung : {m n n′ : ℕ} {b b′ : Bool} (x : ℕ) → m ≡ pick b x n → b ≡ b′ → n ≡ n′ → m ≡ pick b′ x n′
+rung x e f g = e ∙ ap₂ (λ (b : Bool) (n : ℕ). pick b x n) f g
 
 pub pick-case : {A : Type 0} (P : A → Type 0) (b : Bool) (x y : A) → (b ≡ true → P x) → (b ≡ false → P y) → P (pick b x y)
 unfolding pick
@@ -107,6 +111,33 @@ or-true false b e = inr e
 pub or-left : (a b : Bool) → a ≡ true → (a || b) ≡ true
 or-left true b e = refl
 or-left false b e = absurd (false≢true e)
+
+-- ---- the number of the first test that holds: a step is done where it is 0, and refused otherwise
+
+-- a test that holds
+pub judge-refused : {A : Type 0} (l : List Test) (y : Out A) → (firstNumber l ≡ 0 → ⊥) → judge l y ≡ refuse (firstNumber l)
+judge-refused [] y n = absurd (n refl)
+judge-refused (t ∷ l) y n = go (t .holds) refl (judge-refused l y)
+  where
+    go : (b : Bool) → t .holds ≡ b → ((firstNumber l ≡ 0 → ⊥) → judge l y ≡ refuse (firstNumber l)) → judge (t ∷ l) y ≡ refuse (firstNumber (t ∷ l))
+    go true e ih = stop-guard _ _ _ e ∙ ap refuse (sym (pick-true _ _ _ e))
+    go false e ih = let p = pick-false (t .holds) (t .number) (firstNumber l) e in pass-guard _ _ _ e ∙ ih (λ f. n (p ∙ f)) ∙ ap refuse (sym p)
+
+-- none holds: no refusal has the number 0
+abbrev pub over : List Test → Bool
+over [] = true
+over (t ∷ l) = not (eqb (t .number) 0) && over l
+
+pub all-passed : (l : List Test) → over l ≡ true → firstNumber l ≡ 0 → Passed l
+all-passed [] o e = tt
+all-passed (t ∷ l) o e = go (t .holds) refl (all-passed l (and-right (not (eqb (t .number) 0)) (over l) o))
+  where
+    go : (b : Bool) → t .holds ≡ b → (firstNumber l ≡ 0 → Passed l) → Passed (t ∷ l)
+    go true f ih = absurd (eqb-false _ _ (not-true _ (and-left (not (eqb (t .number) 0)) (over l) o)) (sym (pick-true _ _ _ f) ∙ e))
+    go false f ih = (f, ih (sym (pick-false _ _ _ f) ∙ e))
+
+pub judge-done : {A : Type 0} (l : List Test) (y : Out A) → over l ≡ true → firstNumber l ≡ 0 → judge l y ≡ y
+judge-done l y o e = pass-all l y (all-passed l o e)
 
 -- ---- a test that reflects a fact: it is true where the fact holds, and false where it does not
 

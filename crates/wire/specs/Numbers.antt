@@ -139,6 +139,11 @@ abbrev pub judge : {A : Type 0} → List Test → Out A → Out A
 judge [] y = y
 judge (t ∷ l) y = guard (t .holds) (t .number) (judge l y)
 
+-- the number of the first test that holds; 0 where none does
+abbrev pub firstNumber : List Test → ℕ
+firstNumber [] = 0
+firstNumber (t ∷ l) = pick (t .holds) (t .number) (firstNumber l)
+
 -- ---- how document 01 says it: rows, each with its condition
 
 pub record Case : Type 1 where

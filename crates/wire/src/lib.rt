@@ -2,6 +2,7 @@
 // Sessions, sequences and stamps: numbers of three kinds, each compared only with its own kind.
 // Versions, and the fields of a packet.
 ghost use mathlib.Core.Path.{_≡_};
+ghost use Rattle.wire.specs.Numbers.{pick};
 ghost use Rattle.wire.specs.Version.{version, lessSession, sameSession, lastSession, nextSession, lessSequence, sameSequence, lastSequence, nextSequence, lessStamp, sameStamp, lastStamp, nextStamp, newer, isZero, isGiven, isOrderly};
 
 // All of a packet but its value; the key; the most of a value; what an outlet must hold.
@@ -75,6 +76,13 @@ pub const KEY_THERE: u8 = 20;
 pub const NO_FREE_SLOT: u8 = 21;
 
 pub const FENCE_ABOVE: u8 = 22;
+
+// The number of a row that applies, else of the rows behind it.
+pub fn choose(b: bool, x: u8, y: u8) -> u8
+    ensures { λ r. ⌜ r ≡ pick b x y ⌝ }
+{
+    if b { x } else { y }
+}
 
 pub struct Session(pub u16);
 

@@ -1,4 +1,4 @@
--- What `control::activate` promises is the event.
+-- What `record::activate` promises is the event.
 use borrow.Author.Needs.{needs}
 use Rattle.claims.proofs.Events.{activate-event}
 use Rattle.claims.proofs.activating.Statement.{statement}

@@ -1,4 +1,4 @@
--- What `control::cancel` promises is the event.
+-- What `record::cancel` promises is the event.
 use borrow.Author.Needs.{needs}
 use Rattle.claims.proofs.Events.{cancel-event}
 use Rattle.claims.proofs.cancelling.Statement.{statement}

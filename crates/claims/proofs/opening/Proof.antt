@@ -1,4 +1,4 @@
--- What `control::open` promises is the event.
+-- What `record::open` promises is the event.
 use borrow.Author.Needs.{needs}
 use Rattle.claims.proofs.Events.{open-event}
 use Rattle.claims.proofs.opening.Statement.{statement}

@@ -1,4 +1,4 @@
--- What `control::remove` promises is the event.
+-- What `record::remove` promises is the event.
 use borrow.Author.Needs.{needs}
 use Rattle.claims.proofs.Events.{remove-event}
 use Rattle.claims.proofs.removing.Statement.{statement}

@@ -1,5 +1,10 @@
 -- `control::copy_turn` meets its contract.
+use mathlib.Core.Path.{refl, ap, ap₂}
+use mathlib.Core.Bool.{Bool, _&&_, _||_, not}
+use lib.Dec.{eqb}
 use borrow.Author.Needs.{needs}
+use Rattle.wire.specs.Numbers.{outOfTurn, notMeant, otherCount}
+use Rattle.wire.proofs.Numbers.{rung}
 use Rattle.control.proofs.copy_turn.Statement.{statement}
 use Rattle.control.proofs.copy_turn.Tie as tie
 
@@ -22,7 +27,14 @@ choose-requires-3 : tie.Need-choose-requires-3
 choose-requires-3 c κs = search needs
 
 returns : tie.Need-returns
-returns c = cc
+returns c =
+    let c2 = c .before .before in
+    let c1 = c2 .before .before in
+    let s = c1 .before .before .before .before .args in
+    let opened = c1 .before .before .before .is-open .ensures in
+    rung outOfTurn (c .choose3 .ensures) (ap₂ (λ (a b : Bool). not a || b) opened (c .before .not-next .ensures))
+    (rung notMeant (c2 .choose2 .ensures) (c2 .before .other-ids .ensures)
+    (rung otherCount (c1 .choose .ensures) (ap (λ (b : Bool). b && (not (eqb (s .m) (s .c .count)) || not (eqb (s .n) (s .c .count)))) opened) refl))
 
 pub copy-turn-spec : {M : Type 1} → statement M
 copy-turn-spec =

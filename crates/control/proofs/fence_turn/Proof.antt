@@ -1,5 +1,10 @@
 -- `control::fence_turn` meets its contract.
+use mathlib.Core.Path.{refl, ap, ap₂}
+use mathlib.Core.Bool.{Bool, _&&_, not}
+use lib.Dec.{eqb}
 use borrow.Author.Needs.{needs}
+use Rattle.wire.specs.Numbers.{outOfTurn, notMeant, otherCount, fenceAbove}
+use Rattle.wire.proofs.Numbers.{rung}
 use Rattle.control.proofs.fence_turn.Statement.{statement}
 use Rattle.control.proofs.fence_turn.Tie as tie
 
@@ -25,7 +30,15 @@ choose-requires-4 : tie.Need-choose-requires-4
 choose-requires-4 c κs = search needs
 
 returns : tie.Need-returns
-returns c = cc
+returns c =
+    let c2 = c .before .before .before in
+    let c1 = c2 .before .before in
+    let s = c1 .before .before .before .before .args in
+    let opened = c1 .before .before .is-open .ensures in
+    rung outOfTurn (c .choose4 .ensures) (ap not opened)
+    (rung notMeant (c .before .choose3 .ensures) (c .before .before .other-named .ensures)
+    (rung otherCount (c2 .choose2 .ensures) (ap (λ (b : Bool). b && not (eqb (s .count) (s .c .count))) opened)
+    (rung fenceAbove (c1 .choose .ensures) (ap₂ _&&_ opened (c1 .before .less .ensures)) refl)))
 
 pub fence-turn-spec : {M : Type 1} → statement M
 fence-turn-spec =

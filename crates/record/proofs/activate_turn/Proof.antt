@@ -1,5 +1,9 @@
 -- `record::activate_turn` meets its contract.
+use mathlib.Core.Path.{refl, ap, ap₂}
+use mathlib.Core.Bool.{Bool, _&&_, _||_, not}
 use borrow.Author.Needs.{needs}
+use Rattle.wire.specs.Numbers.{broken, noNumberLeft, outOfTurn}
+use Rattle.wire.proofs.Numbers.{rung}
 use Rattle.record.proofs.activate_turn.Statement.{statement}
 use Rattle.record.proofs.activate_turn.Tie as tie
 
@@ -28,7 +32,12 @@ choose-requires-3 : tie.Need-choose-requires-3
 choose-requires-3 c κs = search needs
 
 returns : tie.Need-returns
-returns c = cc
+returns c =
+    let c2 = c .before .before in
+    let c1 = c2 .before .before .before in
+    rung broken (c .choose3 .ensures) (ap not (c .before .good2 .ensures))
+    (rung noNumberLeft (c2 .choose2 .ensures) (ap₂ _&&_ (c2 .before .before .becomes-first .ensures) (c2 .before .last .ensures))
+    (rung outOfTurn (c1 .choose .ensures) (ap₂ (λ (a b : Bool). not a || b) (c1 .before .before .is-open .ensures) (c1 .before .slots-left .ensures)) refl))
 
 pub activate-turn-spec : {M : Type 1} → statement M
 activate-turn-spec =

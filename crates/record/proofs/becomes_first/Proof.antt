@@ -1,5 +1,8 @@
 -- `record::becomes_first` meets its contract.
+use mathlib.Core.Path.{sym, ap, _∙_}
+use lib.Dec.{eqb}
 use borrow.Author.Needs.{needs}
+use Rattle.steps.specs.Control.{becomesFirst}
 use Rattle.record.proofs.becomes_first.Statement.{statement}
 use Rattle.record.proofs.becomes_first.Tie as tie
 
@@ -19,7 +22,9 @@ returns : tie.Need-returns
 returns c = search needs
 
 returns-2 : tie.Need-returns-2
-returns-2 c = cc
+returns-2 c =
+    let told = c .before .before .before .ch .given in
+    ap (eqb (told .0 .0 .named)) (c .before .first .ensures) ∙ sym (ap (becomesFirst (c .before .before .before .before .before .args .c)) (told .1))
 
 returns-3 : tie.Need-returns-3
 returns-3 c = search needs

@@ -1,5 +1,9 @@
 -- `record::cancel_turn` meets its contract.
+use mathlib.Core.Path.{refl, ap}
+use mathlib.Core.Bool.{not}
 use borrow.Author.Needs.{needs}
+use Rattle.wire.specs.Numbers.{broken, outOfTurn}
+use Rattle.wire.proofs.Numbers.{rung}
 use Rattle.record.proofs.cancel_turn.Statement.{statement}
 use Rattle.record.proofs.cancel_turn.Tie as tie
 
@@ -16,7 +20,10 @@ choose-requires-2 : tie.Need-choose-requires-2
 choose-requires-2 c κs = search needs
 
 returns : tie.Need-returns
-returns c = cc
+returns c =
+    let c1 = c .before .before in
+    rung broken (c .choose2 .ensures) (ap not (c .before .good2 .ensures))
+    (rung outOfTurn (c1 .choose .ensures) (ap not (c1 .before .is-open .ensures)) refl)
 
 pub cancel-turn-spec : {M : Type 1} → statement M
 cancel-turn-spec =

@@ -37,7 +37,8 @@ returns : tie.Need-returns
 returns c = search needs
 
 returns-2 : tie.Need-returns-2
-returns-2 c = cc
+returns-2 c =
+    c .place .ensures ∙ sym (ap (joinPlace (c .before .before .before .before .args .c)) (c .before .before .ch .given .1))
 
 returns-3 : tie.Need-returns-3
 returns-3 c =

@@ -1,5 +1,11 @@
 -- `record::open_turn` meets its contract.
+use Prim.Native.Nat.{ℕ}
+use mathlib.Core.Path.{refl, ap, ap₂}
+use mathlib.Core.Bool.{Bool, _&&_, _||_, not}
+use lib.Dec.{eqb}
 use borrow.Author.Needs.{needs}
+use Rattle.wire.specs.Numbers.{broken, noNumberLeft, changeOpen, notMeant, idUsed}
+use Rattle.wire.proofs.Numbers.{rung}
 use Rattle.record.proofs.open_turn.Statement.{statement}
 use Rattle.record.proofs.open_turn.Tie as tie
 
@@ -40,7 +46,17 @@ choose-requires-6 : tie.Need-choose-requires-6
 choose-requires-6 c κs = search needs
 
 returns : tie.Need-returns
-returns c = cc
+returns c =
+    let c5 = c .before .before in
+    let c4 = c5 .before .before in
+    let c3 = c4 .before .before in
+    let c1 = c3 .before .before .before in
+    let s = c1 .before .before .before .before .before .args in
+    rung broken (c .choose6 .ensures) (ap not (c .before .good2 .ensures))
+    (rung noNumberLeft (c5 .choose5 .ensures) (c5 .before .last2 .ensures)
+    (rung changeOpen (c4 .choose4 .ensures) (c4 .before .is-open .ensures)
+    (rung notMeant (c3 .choose3 .ensures) (ap₂ (λ (b : Bool) (id : ℕ). not b || (s .after && not (eqb (s .named) id))) (c1 .before .before .member .ensures) (c1 .before .last .ensures))
+    (rung idUsed (c3 .before .choose2 .ensures) refl (c1 .choose .ensures)))))
 
 pub open-turn-spec : {M : Type 1} → statement M
 open-turn-spec =

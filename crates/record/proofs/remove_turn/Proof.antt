@@ -1,5 +1,11 @@
 -- `record::remove_turn` meets its contract.
+use Prim.Native.Nat.{ℕ}
+use mathlib.Core.Path.{ap, ap₂}
+use mathlib.Core.Bool.{Bool, _&&_, not}
+use lib.Dec.{eqb}
 use borrow.Author.Needs.{needs}
+use Rattle.wire.specs.Numbers.{broken, noNumberLeft, changeOpen, notMeant}
+use Rattle.wire.proofs.Numbers.{rung}
 use Rattle.record.proofs.remove_turn.Statement.{statement}
 use Rattle.record.proofs.remove_turn.Tie as tie
 
@@ -34,7 +40,16 @@ choose-requires-5 : tie.Need-choose-requires-5
 choose-requires-5 c κs = search needs
 
 returns : tie.Need-returns
-returns c = cc
+returns c =
+    let c4 = c .before .before in
+    let c3 = c4 .before .before .before in
+    let c2 = c3 .before .before in
+    let c1 = c2 .before .before in
+    let s = c1 .before .before .before .args in
+    rung broken (c .choose5 .ensures) (ap not (c .before .good2 .ensures))
+    (rung noNumberLeft (c4 .choose4 .ensures) (ap₂ (λ (first : ℕ) (b : Bool). eqb (s .id) first && b) (c4 .before .before .first .ensures) (c4 .before .last .ensures))
+    (rung changeOpen (c3 .choose3 .ensures) (c3 .before .is-open .ensures)
+    (rung notMeant (c2 .choose2 .ensures) (ap not (c2 .before .member .ensures)) (c1 .choose .ensures))))
 
 pub remove-turn-spec : {M : Type 1} → statement M
 remove-turn-spec =

@@ -1,8 +1,8 @@
--- `record::choose` meets its contract.
+-- `wire::choose` meets its contract.
 use mathlib.Core.Path.{sym}
 use Rattle.wire.proofs.Numbers.{pick-true, pick-false}
-use Rattle.record.proofs.choose.Statement.{statement}
-use Rattle.record.proofs.choose.Tie as tie
+use Rattle.wire.proofs.choose.Statement.{statement}
+use Rattle.wire.proofs.choose.Tie as tie
 
 returns : tie.Need-returns
 returns c = sym (pick-true _ _ _ (c .if1 .taken))
