@@ -1,12 +1,13 @@
 -- A step on the record alone, by the number of the first test that holds: done where it is 0, and refused otherwise.
 use Prim.Native.Nat.{ℕ, _<_}
-use mathlib.Core.Path.{_≡_, refl, sym, ap, _∙_}
-use mathlib.Core.Bool.{true, not}
+use mathlib.Core.Path.{_≡_, refl, sym, ap, ap₂, _∙_}
+use mathlib.Core.Bool.{Bool, true, not}
 use mathlib.Core.List.{List, _∷_}
-use Rattle.wire.specs.Numbers.{ok, numberOf, left, Test, test, broken, judge, firstNumber}
+use Rattle.wire.specs.Numbers.{ok, numberOf, left, pick, Test, test, broken, judge, firstNumber}
+use Rattle.wire.specs.Version.{nextSession}
 use Rattle.wire.proofs.Numbers.{judge-refused, over, judge-done}
 use Rattle.steps.specs.declared.Chain.{Chain}
-use Rattle.steps.specs.Chain.{mostNodes, chainOk}
+use Rattle.steps.specs.Chain.{mostNodes, chainOk, withMembers}
 use Rattle.steps.specs.Control.{ChainGives, onRecord, activated, activateTests, activateStep, removed, removeTests, removeStep}
 use Rattle.steps.proofs.ControlViews.{on-record, joining-rules, activate-view}
 
@@ -19,6 +20,11 @@ pub chain-refused : {n : ℕ} (r r′ : Chain) (l : List Test) → n ≡ firstNu
 chain-refused r r′ l e z =
     let d = judge-refused l (ok r′) (λ f. z (e ∙ f)) in
     record { number = e ∙ sym (ap numberOf d); chain = sym (ap (left r (λ c. c)) d) }
+
+-- other members, by what the places and the test for the session are
+pub members-are : (r : Chain) (n : ℕ) {x : Chain} {l l′ : List ℕ} {up up′ : Bool} → x ≡ withMembers r n l (pick up (nextSession (r .session)) (r .session)) → l ≡ l′ → up ≡ up′
+    → x ≡ withMembers r n l′ (pick up′ (nextSession (r .session)) (r .session))
+members-are r n e f g = e ∙ ap₂ (λ (l : List ℕ) (up : Bool). withMembers r n l (pick up (nextSession (r .session)) (r .session))) f g
 
 -- where a step is done the record keeps its rules: there is room for one more, or one to take out
 pub activate-room : {n : ℕ} (r : Chain) → n ≡ firstNumber (test broken (not (chainOk r)) ∷ activateTests r) → n ≡ 0 → r .length < mostNodes

@@ -1,13 +1,10 @@
 -- `record::activated` meets its contract.
-use Prim.Native.Nat.{ℕ, _+_}
+use Prim.Native.Nat.{_+_}
 use mathlib.Core.Path.{ap₂, _∙_}
-use mathlib.Core.Bool.{Bool}
-use mathlib.Core.List.{List}
 use borrow.Author.Needs.{needs}
-use Rattle.wire.specs.Numbers.{pick}
-use Rattle.wire.specs.Version.{nextSession}
-use Rattle.steps.specs.Chain.{insertAt, withMembers}
+use Rattle.steps.specs.Chain.{insertAt}
 use Rattle.steps.specs.Control.{activated}
+use Rattle.record.proofs.Laws.{members-are}
 use Rattle.record.proofs.activated.Statement.{statement}
 use Rattle.record.proofs.activated.Tie as tie
 
@@ -34,8 +31,7 @@ unfolding activated
 returns c =
     let inserts = c .before .before .before in
     let r = inserts .before .before .before .before .args .c in
-    c .with-members .ensures
-    ∙ ap₂ (λ (l : List ℕ) (up : Bool). withMembers r (r .length + 1) l (pick up (nextSession (r .session)) (r .session)))
+    members-are r (r .length + 1) (c .with-members .ensures)
     (inserts .insert .ensures ∙ ap₂ (insertAt (r .places)) (inserts .before .before .join-place .ensures) (inserts .before .join-id .ensures))
     (c .before .becomes-first .ensures)
 

@@ -1,13 +1,11 @@
 -- `record::removed` meets its contract.
-use Prim.Native.Nat.{ℕ, _-_}
-use mathlib.Core.Path.{ap, ap₂, _∙_}
-use mathlib.Core.List.{List}
+use Prim.Native.Nat.{_-_}
+use mathlib.Core.Path.{ap, _∙_}
 use lib.Dec.{eqb}
 use borrow.Author.Needs.{needs}
-use Rattle.wire.specs.Numbers.{pick}
-use Rattle.wire.specs.Version.{nextSession}
-use Rattle.steps.specs.Chain.{removeAt, withMembers}
+use Rattle.steps.specs.Chain.{removeAt}
 use Rattle.steps.specs.Control.{removed}
+use Rattle.record.proofs.Laws.{members-are}
 use Rattle.record.proofs.removed.Statement.{statement}
 use Rattle.record.proofs.removed.Tie as tie
 
@@ -32,10 +30,9 @@ returns c =
     let removes = c .before .before .before in
     let s = removes .before .before .before .args in
     let r = s .c in
-    c .with-members .ensures
-    ∙ ap₂ (λ (l : List ℕ) (first : ℕ). withMembers r (r .length - 1) l (pick (eqb (s .id) first) (nextSession (r .session)) (r .session)))
+    members-are r (r .length - 1) (c .with-members .ensures)
     (removes .remove .ensures ∙ ap (removeAt (r .places)) (removes .before .place .ensures))
-    (c .before .first .ensures)
+    (ap (eqb (s .id)) (c .before .first .ensures))
 
 pub removed-spec : {M : Type 1} → statement M
 removed-spec =
