@@ -9,12 +9,16 @@ use lib.ListN.{length, getD, take, drop, length-drop, drop-of-length-le}
 use lib.Seq.{take-all, take-nil}
 use lib.Dec.{eqb}
 use borrow.Author.Tests.{le-leb}
+use Rattle.be.specs.Be.{be}
+use Rattle.wire.specs.Version.{stamp, version}
 use Rattle.wire.specs.Packet.{Packet, frontSize, keySize, valueSize, outletSize, lengthAt, zeroAt, headOf, frontOf, headOk, wellFormed, Formed, readCall, readingOf, sentIn, writeCall, writingOf, WriteGives}
 use Rattle.wire.specs.Numbers.{Out, left, malformed}
 use Rattle.wire.specs.declared.Reading.the-variants.{Fields, Unread}
 use Rattle.wire.specs.declared.Writing.{Writing}
+use Rattle.wire.specs.declared.Version.{Version}
 use Rattle.wire.specs.declared.Head.{Head}
 use Rattle.wire.proofs.Numbers.{Reflects, reflects-yes, reflects-no, reflects-cases, reflect-and, reflect-eqb, reflect-leb, pick-true, pick-false}
+use Rattle.wire.proofs.Versions.{version-is}
 use Rattle.wire.proofs.Packet.{reflect-formed, ReadView, read-done, read-refused}
 use Rattle.packet.specs.Emit.{sessionAt, room, emitted}
 
@@ -92,3 +96,30 @@ length-front h = refl
 pub gives : (out : List ℕ) (p : Packet) (o : Out Packet) (w : Writing) (out′ : List ℕ) → writeCall out p ≡ o → w ≡ writingOf o → out′ ≡ left out (sentIn out) o
     → WriteGives out p w out′
 gives out p o w out′ e f g = record { answer = f ∙ ap writingOf (sym e); outlet = g ∙ ap (left out (sentIn out)) (sym e) }
+
+-- ---- the fields of enough bytes
+
+-- numbers that were read where the definition reads them are its fields
+pub fields-are : (p : List ℕ) {f t c r n s q : ℕ} {v : Version}
+    → f ≡ be 2 p 2
+    → t ≡ be 2 p 4
+    → c ≡ be 2 p 6
+    → r ≡ be 4 p 8
+    → n ≡ be 4 p 12
+    → v ≡ version s q
+    → s ≡ be 2 p 16
+    → q ≡ be 4 p 20
+    → record { op = getD p 0 0; answer = getD p 1 0; from = f; to = t; client = c; request = r; stamp = stamp n; version = v; length = getD p lengthAt 0 } ≡ headOf p
+unfolding headOf
+fields-are p f t c r n v s q =
+    λ i. record {
+      op = getD p 0 0;
+      answer = getD p 1 0;
+      from = f i;
+      to = t i;
+      client = c i;
+      request = r i;
+      stamp = stamp (n i);
+      version = (v ∙ version-is (version _ _) (version _ _) s q) i;
+      length = getD p lengthAt 0;
+    }

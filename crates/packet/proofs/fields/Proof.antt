@@ -1,6 +1,6 @@
 -- `packet::fields`: the fields of enough bytes are those of the definition.
 use borrow.Author.Needs.{needs}
-use Rattle.wire.specs.Packet.{headOf}
+use Rattle.packet.proofs.Laws.{fields-are}
 use Rattle.packet.proofs.fields.Statement.{statement}
 use Rattle.packet.proofs.fields.Tie as tie
 
@@ -38,8 +38,19 @@ shared-slice-read-t16 : tie.Need-shared-slice-read-t16
 shared-slice-read-t16 c = search needs
 
 returns : tie.Need-returns
-unfolding headOf
-returns c = cc
+returns c =
+    let c8 = c .before .before in
+    let c4 = c8 .before .before .before .before in
+    fields-are
+    (c4 .before .before .before .before .before .before .args .p .now)
+    (c4 .before .before .read16 .ensures)
+    (c4 .before .read162 .ensures)
+    (c4 .read163 .ensures)
+    (c8 .before .before .before .read32 .ensures)
+    (c8 .before .before .read322 .ensures)
+    (c .before .new .ensures)
+    (c8 .before .read164 .ensures)
+    (c8 .read323 .ensures)
 
 pub fields-spec : {M : Type 1} → statement M
 fields-spec =
