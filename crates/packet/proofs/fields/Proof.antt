@@ -1,4 +1,5 @@
 -- `packet::fields`: the fields of enough bytes are those of the definition.
+use native.Mathlib.Omega.{arith}
 use borrow.Author.Needs.{needs}
 use Rattle.packet.proofs.Laws.{fields-are}
 use Rattle.packet.proofs.fields.Statement.{statement}
@@ -11,25 +12,25 @@ shared-slice-read-t5 : tie.Need-shared-slice-read-t5
 shared-slice-read-t5 c = search needs
 
 read16-requires : tie.Need-read16-requires
-read16-requires c κs = search needs
+read16-requires c κs = omega arith
 
 read16-requires-2 : tie.Need-read16-requires-2
-read16-requires-2 c κs = search needs
+read16-requires-2 c κs = omega arith
 
 read16-requires-3 : tie.Need-read16-requires-3
-read16-requires-3 c κs = search needs
+read16-requires-3 c κs = omega arith
 
 read32-requires : tie.Need-read32-requires
-read32-requires c κs = search needs
+read32-requires c κs = omega arith
 
 read32-requires-2 : tie.Need-read32-requires-2
-read32-requires-2 c κs = search needs
+read32-requires-2 c κs = omega arith
 
 read16-requires-4 : tie.Need-read16-requires-4
-read16-requires-4 c κs = search needs
+read16-requires-4 c κs = omega arith
 
 read32-requires-3 : tie.Need-read32-requires-3
-read32-requires-3 c κs = search needs
+read32-requires-3 c κs = omega arith
 
 new-requires : tie.Need-new-requires
 new-requires c κs = search needs
