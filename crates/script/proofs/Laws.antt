@@ -194,8 +194,8 @@ number-word w e = pick-false _ _ _ (ne-eqb _ _ e)
 
 -- ---- commands: one choice after another
 
-pub picked : (a b : Bool) (x y z : Command) {r : Command} → r ≡ pick a x y → a ≡ b → y ≡ z → r ≡ pick b x z
-picked a b x y z e f g = e ∙ ap₂ (λ (t : Bool) (w : Command). pick t x w) f g
+pub picked : {a b : Bool} {x w y z r : Command} → r ≡ pick a x y → a ≡ b → x ≡ w → y ≡ z → r ≡ pick b w z
+picked e f g h = e ∙ (λ i. pick (f i) (g i) (h i))
 
 -- ---- by the number of words
 

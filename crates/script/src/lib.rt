@@ -277,14 +277,11 @@ fn open(x: &[u8], named: u16, fresh: u16) -> Command
 fn of_four(line: &[u8]) -> Command
     ensures { λ r. ⌜ r ≡ ofFour (now (line .entry)) ⌝ }
 {
+    let w = first(line);
     let x = second(line);
     let a = open(x, number(third(line)), number(fourth(line)));
-    let b = choose(same(first(line), b"open"), a, Command::Unclear);
-    choose(
-        same(first(line), b"send"),
-        write(x, key(line), value(line)),
-        b,
-    )
+    let b = choose(same(w, b"open"), a, Command::Unclear);
+    choose(same(w, b"send"), write(x, key(line), value(line)), b)
 }
 
 // The command of a line of so many words.

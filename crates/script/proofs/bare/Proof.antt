@@ -27,8 +27,8 @@ choose-requires-2 c κs = search needs
 returns : tie.Need-returns
 unfolding bareOf
 returns c =
-    picked _ _ _ _ _ (c .choose2 .ensures) (c .before .same2 .ensures)
-    (picked _ _ _ _ _ (c .before .before .before .choose .ensures) (c .before .before .before .before .same .ensures) refl)
+    picked (c .choose2 .ensures) (c .before .same2 .ensures) refl
+    (picked (c .before .before .before .choose .ensures) (c .before .before .before .before .same .ensures) refl refl)
 
 pub bare-spec : {M : Type 1} → statement M
 bare-spec =

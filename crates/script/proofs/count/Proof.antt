@@ -1,7 +1,7 @@
 -- The loop has counted the spaces before i.
 use Rattle.script.specs.Words.{wordCount}
-use Prim.Native.Nat.{_+_, _-_, _≤_}
-use mathlib.Core.Path.{_≡_, refl, sym, _∙_}
+use Prim.Native.Nat.{ℕ, _+_, _-_, _≤_}
+use mathlib.Core.Path.{_≡_, refl, sym, ap, _∙_}
 use native.Mathlib.Omega.{arith}
 use lib.ListN.{length, drop}
 use Rattle.script.specs.Words.{spaces}
@@ -39,7 +39,8 @@ loop-again c =
     let s = c .before .before .before .before .before .args in
     let l = c .before .before .before .loop in
     let k = c .counted .ensures in
-    (omega arith, omega (arith, k .1), cc (l .inv .2, k .0, spaces-turn (s .line .now) (l .i) (l .n) (omega arith)))
+    let turn = spaces-turn (s .line .now) (l .i) (l .n) (omega arith) ∙ ap (λ (m : ℕ). l .n + m + spaces (drop (l .i + 1) (s .line .now))) (sym (k .0)) in
+    (omega arith, omega (arith, k .1), l .inv .2 ∙ turn)
 
 returns : tie.Need-returns Inv-loop μ-loop
 unfolding wordCount

@@ -1,7 +1,7 @@
 -- The loop has seen the bytes before i; the word is plain if they and those from i on are.
-use Prim.Native.Nat.{_-_, _≤_}
-use mathlib.Core.Path.{_≡_, refl, sym, _∙_}
-use mathlib.Core.Bool.{_&&_}
+use Prim.Native.Nat.{_+_, _-_, _≤_}
+use mathlib.Core.Path.{_≡_, refl, sym, ap₂, _∙_}
+use mathlib.Core.Bool.{Bool, _&&_, _||_}
 use native.Mathlib.Omega.{arith}
 use lib.ListN.{length, drop}
 use Rattle.script.specs.Words.{plain}
@@ -41,7 +41,8 @@ loop-again : tie.Need-loop-again Inv-loop μ-loop
 loop-again c =
     let s = c .before .before .before .before .before .before .before .args in
     let l = c .before .before .before .before .before .loop in
-    (omega arith, cc (l .inv .1, plain-turn (s .w .now) (l .i) (l .so) (omega arith)))
+    let tested = ap₂ (λ (d a : Bool). (l .so && (d || a)) && plain (drop (l .i + 1) (s .w .now))) (sym (c .before .before .is-digit .ensures)) (sym (c .is-letter .ensures)) in
+    (omega arith, l .inv .1 ∙ plain-turn (s .w .now) (l .i) (l .so) (omega arith) ∙ tested)
 
 returns : tie.Need-returns Inv-loop μ-loop
 returns c =

@@ -1,7 +1,7 @@
 -- The loop has read the digits before i.
 use Rattle.script.proofs.Laws.{number-none, number-word}
-use Prim.Native.Nat.{_-_, _≤_}
-use mathlib.Core.Path.{_≡_, refl, sym, _∙_}
+use Prim.Native.Nat.{ℕ, _+_, _-_, _≤_}
+use mathlib.Core.Path.{_≡_, refl, sym, ap, _∙_}
 use native.Mathlib.Omega.{arith}
 use lib.ListN.{length, getD, drop}
 use Rattle.script.specs.Sizes.{noSuch}
@@ -40,7 +40,8 @@ loop-again c =
     let s = c .before .before .before .before .before .before .args in
     let l = c .before .before .before .loop in
     let m = c .more .ensures in
-    (omega arith, omega (arith, m, longer-fits (l .n) (getD (s .w .now) (l .i) 0)), cc (l .inv .2, m, number-turn (s .w .now) (l .i) (l .n) (omega arith)))
+    let turn = number-turn (s .w .now) (l .i) (l .n) (omega arith) ∙ ap (λ (n : ℕ). numberFrom n (drop (l .i + 1) (s .w .now))) (sym m) in
+    (omega arith, omega (arith, m, longer-fits (l .n) (getD (s .w .now) (l .i) 0)), l .inv .2 ∙ turn)
 
 returns-2 : tie.Need-returns-2 Inv-loop μ-loop
 returns-2 c =

@@ -45,10 +45,10 @@ choose-requires-4 c κs = search needs
 returns : tie.Need-returns
 unfolding ofOne
 returns c =
-    picked _ _ _ _ _ (c .choose4 .ensures) (c .before .same4 .ensures)
-    (picked _ _ _ _ _ (c .before .before .before .choose3 .ensures) (c .before .before .before .before .same3 .ensures)
-    (picked _ _ _ _ _ (c .before .before .before .before .before .before .choose2 .ensures) (c .before .before .before .before .before .before .before .same2 .ensures)
-    (picked _ _ _ _ _ (c .before .before .before .before .before .before .before .before .before .choose .ensures) (c .before .before .before .before .before .before .before .before .before .before .same .ensures) refl)))
+    picked (c .choose4 .ensures) (c .before .same4 .ensures) refl
+    (picked (c .before .before .before .choose3 .ensures) (c .before .before .before .before .same3 .ensures) refl
+    (picked (c .before .before .before .before .before .before .choose2 .ensures) (c .before .before .before .before .before .before .before .same2 .ensures) refl
+    (picked (c .before .before .before .before .before .before .before .before .before .choose .ensures) (c .before .before .before .before .before .before .before .before .before .before .same .ensures) refl refl)))
 
 pub of-one-spec : {M : Type 1} → statement M
 of-one-spec =

@@ -1,6 +1,9 @@
 -- Commands of three words: each word is compared, the first that fits decides.
-use Rattle.script.specs.Commands.{ofThree}
+use mathlib.Core.Path.{refl, ap}
 use borrow.Author.Needs.{needs}
+use Rattle.script.specs.declared.Command.the-variants.{Enter}
+use Rattle.script.specs.Commands.{ofThree}
+use Rattle.script.proofs.Laws.{picked}
 use Rattle.script.proofs.of_three.Statement.{statement}
 use Rattle.script.proofs.of_three.Tie as tie
 
@@ -33,7 +36,12 @@ choose-requires-3 c κs = search needs
 
 returns : tie.Need-returns
 unfolding ofThree
-returns c = cc
+returns c =
+    let c2 = c .before in
+    let c1 = c2 .before .before .before .before in
+    picked (c .choose3 .ensures) refl refl
+    (picked (c2 .choose2 .ensures) (c2 .before .before .same2 .ensures) (ap Enter (c2 .before .number .ensures))
+    (picked (c1 .choose .ensures) (c1 .before .before .same .ensures) (c1 .before .bare .ensures) refl))
 
 pub of-three-spec : {M : Type 1} → statement M
 of-three-spec =

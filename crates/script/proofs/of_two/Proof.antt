@@ -36,9 +36,9 @@ choose-requires-3 c κs = search needs
 returns : tie.Need-returns
 unfolding ofTwo
 returns c =
-    picked _ _ _ _ _ (c .choose3 .ensures) (c .before .same3 .ensures)
-    (picked _ _ _ _ _ (c .before .before .before .choose2 .ensures) (c .before .before .before .before .same2 .ensures)
-    (picked _ _ _ _ _ (c .before .before .before .before .before .before .choose .ensures) (c .before .before .before .before .before .before .before .same .ensures) refl))
+    picked (c .choose3 .ensures) (c .before .same3 .ensures) refl
+    (picked (c .before .before .before .choose2 .ensures) (c .before .before .before .before .same2 .ensures) refl
+    (picked (c .before .before .before .before .before .before .choose .ensures) (c .before .before .before .before .before .before .before .same .ensures) refl refl))
 
 pub of-two-spec : {M : Type 1} → statement M
 of-two-spec =

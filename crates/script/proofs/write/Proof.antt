@@ -21,7 +21,7 @@ choose-requires-2 c κs = search needs
 returns : tie.Need-returns
 unfolding writeOf
 returns c =
-    picked _ _ _ _ _ (c .choose2 .ensures) refl (picked _ _ _ _ _ (c .before .choose .ensures) (c .before .before .same .ensures) refl)
+    picked (c .choose2 .ensures) refl refl (picked (c .before .choose .ensures) (c .before .before .same .ensures) refl refl)
 
 pub write-spec : {M : Type 1} → statement M
 write-spec =
