@@ -11,11 +11,11 @@ use lib.Seq.{getD-set-same, getD-set-other}
 use Rattle.wire.specs.Numbers.{Out, refuse, ok}
 use Rattle.wire.specs.Packet.{Packet, keySize}
 use Rattle.wire.specs.declared.Stamp.{Stamp}
-use Rattle.wire.proofs.Numbers.{reflects-cases}
+use Rattle.wire.proofs.Numbers.{reflects-cases, reflect-eqs}
 use Rattle.store.specs.Table.{Table, freeSlot, enteredSlot, neverWritten, Write, setRow, writeTable, fenceTable, blankTable}
 use Rattle.store.specs.Held.{versionAt, heldVersion}
 use Rattle.store.proofs.Rules.{slotFree, slotUsed}
-use Rattle.store.proofs.Find.{reflect-eqs, free-at, version-entered, held-entered-other}
+use Rattle.store.proofs.Find.{free-at, version-entered, held-entered-other}
 use Rattle.steps.specs.declared.Joining.{Joining}
 use Rattle.steps.specs.declared.Change.{Change}
 use Rattle.steps.specs.declared.Change.the-variants.{Still}

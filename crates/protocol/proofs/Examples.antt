@@ -8,9 +8,8 @@ use native.Mathlib.Omega.{arith}
 use lib.ListN.{length}
 use lib.Dec.{eqb}
 use borrow.Author.Tests.{eqb-true, not-true}
-use Rattle.wire.proofs.Numbers.{and-left, and-right, or-true, reflect-and, reflect-eqb}
+use Rattle.wire.proofs.Numbers.{and-left, and-right, or-true, reflect-and, reflect-eqb, reflect-eqs}
 use Rattle.wire.proofs.Packet.{reflect-fit}
-use Rattle.store.proofs.Find.{reflect-eqs}
 use Rattle.steps.proofs.ChainRules.{reflect-chain}
 use Rattle.wire.specs.Numbers.{pick, guard}
 use Rattle.wire.specs.declared.Session.{Session}

@@ -12,11 +12,11 @@ use Rattle.wire.specs.Version.{zeroVersion, AtMost, Below}
 use Rattle.wire.specs.Packet.{Packet, Fit, query, opRead, answerNoKey}
 use Rattle.wire.specs.declared.Version.{Version}
 use Rattle.wire.specs.declared.Session.{Session}
-use Rattle.wire.proofs.Numbers.{reflects-cases, reflect-ltb}
+use Rattle.wire.proofs.Numbers.{reflects-cases, reflect-ltb, reflect-eqs}
 use Rattle.wire.proofs.Versions.{below-atmost, atmost-below-trans}
 use Rattle.store.specs.Table.{Slot, Table, freeSlot, Write, keep, writeTable}
 use Rattle.store.specs.Held.{Held, held, Content, nothing, contentOf, heldContent, heldVersion, versionAt}
-use Rattle.store.proofs.Find.{reflect-eqs, find-at}
+use Rattle.store.proofs.Find.{find-at}
 use Rattle.steps.specs.declared.Joining.{Joining}
 use Rattle.steps.specs.Chain.{members, firstOf, lastOf, ChainRules, Opened}
 use Rattle.steps.specs.Relay.{stops}

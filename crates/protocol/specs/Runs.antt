@@ -4,10 +4,11 @@ use mathlib.Core.List.{List, [], _∷_, _++_}
 use mathlib.Core.Bool.{Bool, true, false, _&&_, _||_, not}
 use lib.ListN.{length, replicate}
 use lib.Dec.{eqb}
+use Rattle.wire.specs.Numbers.{eqs}
 use Rattle.wire.specs.Version.{version, stamp, zeroVersion}
 use Rattle.wire.specs.Packet.{Packet, packet, packetOk, keySize, query, opRead, opWrite, answerValue, answerWritten}
 use Rattle.wire.specs.declared.Version.{Version}
-use Rattle.store.specs.Table.{blankTable, eqs}
+use Rattle.store.specs.Table.{blankTable}
 use Rattle.steps.specs.Chain.{startChain}
 use Rattle.protocol.specs.System.{State, Event, fromClient, noPacket, atRelay, atNode, opens, fences, copies, activates, cancels, removes, enters, halts, Entry, exec}
 

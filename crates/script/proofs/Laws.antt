@@ -11,9 +11,8 @@ use lib.Seq.{drop-cons, take-all}
 use lib.Dec.{eqb, ltb, leb}
 use borrow.Author.Tests.{ltb-true, ltb-false, lt-ltb, le-ltb, leb-true, eq-eqb, ne-eqb}
 use Rattle.bytes.specs.Bytes.{slice, indexOf, indexAfter}
-use Rattle.wire.specs.Numbers.{pick}
-use Rattle.wire.proofs.Numbers.{pick-true, pick-false, pick-case, and-left}
-use Rattle.store.specs.Table.{eqs}
+use Rattle.wire.specs.Numbers.{pick, eqs}
+use Rattle.wire.proofs.Numbers.{pick-true, pick-false, pick-case, and-left, reflects-no, reflect-eqs}
 use Rattle.script.specs.declared.Command.{Command}
 use Rattle.script.specs.declared.Command.the-variants.{Unclear}
 use Rattle.script.specs.Sizes.{mostLine, mostText, noSuch}
@@ -96,14 +95,7 @@ pub eqs-end : (l m : List ℕ) (i : ℕ) (so : Bool) → length l ≤ i → leng
 eqs-end l m i so h g = ap₂ (λ (a b : List ℕ). so && eqs a b) (none-left l i h) (none-left m i g) ∙ and-true so
 
 pub eqs-other : (l m : List ℕ) → (length l ≡ length m → ⊥) → eqs l m ≡ false
-eqs-other [] [] e = absurd (e refl)
-eqs-other [] (y ∷ m) e = refl
-eqs-other (x ∷ l) [] e = refl
-eqs-other (x ∷ l) (y ∷ m) e = ap (λ (b : Bool). eqb x y && b) (eqs-other l m (λ h. e (ap suc h))) ∙ and-false (eqb x y)
-  where
-    and-false : (a : Bool) → (a && false) ≡ false
-    and-false true = refl
-    and-false false = refl
+eqs-other l m n = reflects-no (reflect-eqs l m) (λ e. n (ap length e))
 
 -- ---- keys and values
 

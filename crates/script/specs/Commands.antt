@@ -4,9 +4,8 @@ use mathlib.Core.Bool.{true, false, _||_}
 use mathlib.Core.List.{List, [], _∷_}
 use lib.ListN.{length}
 use lib.Dec.{eqb, ltb}
-use Rattle.wire.specs.Numbers.{pick}
+use Rattle.wire.specs.Numbers.{pick, eqs}
 use Rattle.wire.specs.Packet.{opRead, opWrite, opDelete}
-use Rattle.store.specs.Table.{eqs}
 use Rattle.script.specs.declared.Order.the-variants.{Open, Fence, Copy, Activate, Cancel, Remove}
 use Rattle.script.specs.declared.Command.{Command}
 use Rattle.script.specs.declared.Command.the-variants.{Enter, Send, Deliver, Halt, Rule, Unclear}

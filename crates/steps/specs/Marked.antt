@@ -5,11 +5,11 @@ use mathlib.Core.Bool.{Bool, true, false, _&&_, not}
 use lib.ListN.{length, replicate}
 use lib.Dec.{eqb}
 use Rattle.be.specs.Be.{digits, put}
-use Rattle.wire.specs.Numbers.{Out, refuse, ok, numberOf, left}
+use Rattle.wire.specs.Numbers.{Out, refuse, ok, numberOf, left, eqs}
 use Rattle.wire.specs.Version.{version, session, stamp}
 use Rattle.wire.specs.Packet.{packet, bytesOf, sentIn, outletSize, opRead, opWrite, query}
 use Rattle.wire.specs.declared.Version.{Version}
-use Rattle.store.specs.Table.{Slot, slot, rowOf, enteredSlot, valued, eqs, writeBytes}
+use Rattle.store.specs.Table.{Slot, slot, rowOf, enteredSlot, valued, writeBytes}
 use Rattle.steps.specs.declared.Change.{Change}
 use Rattle.steps.specs.declared.Change.the-variants.{Still, Before}
 use Rattle.steps.specs.declared.Chain.{Chain}

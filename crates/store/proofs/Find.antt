@@ -1,6 +1,6 @@
 -- The first slot that passes a test, the slot that has a key, and what a table holds of a key.
 use Prim.Native.Nat.{ℕ, zero, suc, _+_, _<_}
-use mathlib.Core.Path.{_≡_, refl, sym, ap, ap₂, _∙_}
+use mathlib.Core.Path.{_≡_, refl, sym, ap, _∙_}
 use mathlib.Core.List.{List, [], _∷_}
 use mathlib.Core.Logic.{_↔_}
 use mathlib.Core.Bool.{Bool, true, false}
@@ -9,11 +9,11 @@ use native.Mathlib.Nat.{add-zero}
 use lib.ListN.{length, getD, set, replicate, length-set, length-replicate, getD-replicate}
 use lib.Seq.{getD-set-same, getD-set-other}
 use Rattle.wire.specs.Numbers.{pick}
-use Rattle.wire.proofs.Numbers.{pick-true, pick-false, pick-case, Reflects, reflects-yes, reflects-no, reflect-true, reflect-false, reflect-eqb, reflect-not, reflect-and, reflect-iff}
+use Rattle.wire.proofs.Numbers.{pick-true, pick-false, pick-case, Reflects, reflects-yes, reflects-no, reflect-eqb, reflect-not, reflect-and, reflect-eqs}
 use Rattle.store.specs.declared.Found.{Found}
 use Rattle.store.specs.declared.Found.the-variants.{At, Nothing}
 use Rattle.wire.specs.Version.{zeroVersion}
-use Rattle.store.specs.Table.{Slot, freeSlot, enteredSlot, free, eqs, has, isFreeSlot, firstFrom, find, lowestFree}
+use Rattle.store.specs.Table.{Slot, freeSlot, enteredSlot, free, has, isFreeSlot, firstFrom, find, lowestFree}
 use Rattle.store.specs.Held.{Held, missing, holds, held, heldVersion, heldContent, versionAt, contentAt, contentOf, nothing}
 
 -- ---- the first slot that passes a test
@@ -94,12 +94,6 @@ first-skip f m (x ∷ l) zero s o n = pick-false (f s) (At m) (firstFrom f (suc 
 first-skip f m (x ∷ l) (suc i) s o n = ap (pick (f x) (At m)) (first-skip f (suc m) l i s o n)
 
 -- ---- a slot that is used and has the key
-
-pub reflect-eqs : (a b : List ℕ) → Reflects (eqs a b) (a ≡ b)
-reflect-eqs [] [] = reflect-true refl
-reflect-eqs [] (y ∷ b) = reflect-false (λ e. let z : _≡_ {A = ℕ} 0 1 = cc in omega arith)
-reflect-eqs (x ∷ a) [] = reflect-false (λ e. let z : _≡_ {A = ℕ} 0 1 = cc in omega arith)
-reflect-eqs (x ∷ a) (y ∷ b) = reflect-iff (reflect-and (reflect-eqb x y) (reflect-eqs a b)) (λ p. ap₂ _∷_ (p .0) (p .1), λ e. (cc, cc))
 
 pub reflect-has : (k : List ℕ) (s : Slot) → Reflects (has k s) ((s .state ≡ free → ⊥) × (s .key ≡ k))
 unfolding has

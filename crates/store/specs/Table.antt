@@ -2,12 +2,12 @@
 use Prim.Native.Nat.{ℕ, zero, suc, _+_, _*_, _-_, _/_, _<_, _≤_}
 use mathlib.Core.Path.{_≡_}
 use mathlib.Core.List.{List, [], _∷_, _++_}
-use mathlib.Core.Bool.{Bool, true, false, _&&_, _||_, not}
+use mathlib.Core.Bool.{Bool, true, _&&_, _||_, not}
 use mathlib.Core.Logic.{_⊎_}
 use lib.ListN.{length, getD, take, drop, set, replicate}
 use lib.Dec.{ltb, leb, eqb}
 use Rattle.be.specs.Be.{be, digits, put}
-use Rattle.wire.specs.Numbers.{Out, ok, numberOf, left, judge, test, Case, case, broken, pick}
+use Rattle.wire.specs.Numbers.{Out, ok, numberOf, left, judge, test, Case, case, broken, pick, eqs}
 use Rattle.wire.specs.Version.{version, stamp, isZero, isGiven, zeroVersion}
 use Rattle.wire.specs.Packet.{keySize, valueSize}
 use Rattle.wire.specs.declared.Version.{Version}
@@ -177,12 +177,6 @@ pub record TableRules (t : List ℕ) : Type 0 where
   pub rows : (i : ℕ) → i < countOf t → RowRules (row t i)
 
 -- ---- the slot that has a key: where a key stands in two used slots the lower counts
-
-abbrev pub eqs : List ℕ → List ℕ → Bool
-eqs [] [] = true
-eqs [] (y ∷ ys) = false
-eqs (x ∷ xs) [] = false
-eqs (x ∷ xs) (y ∷ ys) = eqb x y && eqs xs ys
 
 -- a slot that is used and has the key
 unfoldable pub has : List ℕ → Slot → Bool

@@ -6,8 +6,9 @@ use mathlib.Core.Logic.{_⊎_, inl, inr, _↔_, ⊎-elim}
 use mathlib.Core.List.{List, [], _∷_, _++_, List·Memᴰ as Mem, List·Memᴰ·head as here, List·Memᴰ·tail as there}
 use native.Mathlib.Omega.{arith}
 use lib.Dec.{ltb, leb, eqb}
+use lib.ListN.{length, getD, drop}
 use borrow.Author.Tests.{ltb-true, ltb-false, leb-true, leb-false, eqb-true, eqb-false, not-true, not-false}
-use Rattle.wire.specs.Numbers.{Out, refuse, ok, pick, guard, Test, judge, firstNumber, Case, under, Applies, First, Judged, priority, numberOf, left}
+use Rattle.wire.specs.Numbers.{Out, refuse, ok, pick, guard, Test, judge, firstNumber, Case, under, Applies, First, Judged, priority, numberOf, left, eqs}
 
 -- ---- if-then-else
 
@@ -369,3 +370,12 @@ lowest P (p ∷ ps) n m d (inr f) h (there i) = lowest P ps n m (and-right (ever
 
 pub judged-lowest : (cs : List Case) (n m : ℕ) → inOrder (numbers cs) priority ≡ true → First (Applies cs) priority n → Applies cs m → n ≤ m
 judged-lowest cs n m o f h = lowest (Applies cs) priority n m refl f h (row-in cs priority m o h)
+
+-- ---- whether two lists are the same
+
+pub reflect-eqs : (a b : List ℕ) → Reflects (eqs a b) (a ≡ b)
+reflect-eqs [] [] = reflect-true refl
+reflect-eqs [] (y ∷ b) = reflect-false (λ e. let h = ap length e in omega arith)
+reflect-eqs (x ∷ a) [] = reflect-false (λ e. let h = ap length e in omega arith)
+reflect-eqs (x ∷ a) (y ∷ b) =
+    reflect-iff (reflect-and (reflect-eqb x y) (reflect-eqs a b)) (λ p. ap₂ _∷_ (p .0) (p .1), λ e. (ap (λ (l : List ℕ). getD l 0 0) e, ap (drop 1) e))

@@ -1,9 +1,10 @@
--- Document 01, "Numbers returned": the refusals and their order, what a step answers, and what it is to give the first refusal that applies.
+-- Document 01, "Numbers returned": the refusals and their order, what a step answers, and what it is to give the first refusal that applies; whether two lists are the same.
 use Prim.Native.Nat.{ℕ}
 use mathlib.Core.Path.{_≡_}
 use mathlib.Core.List.{List, [], _∷_}
-use mathlib.Core.Bool.{Bool, true, false}
+use mathlib.Core.Bool.{Bool, true, false, _&&_}
 use mathlib.Core.Logic.{_⊎_}
+use lib.Dec.{eqb}
 
 -- ---- the rows of the table, by name
 
@@ -172,3 +173,11 @@ First P (x ∷ l) n = ((n ≡ x) × P x) ⊎ ((P x → ⊥) × First P l n)
 abbrev pub Judged : {A : Type 0} → List Case → Out A → Type 0
 Judged cs (refuse n) = First (Applies cs) priority n
 Judged cs (ok a) = (n : ℕ) → Applies cs n → ⊥
+
+-- ---- whether two lists, as of bytes, are the same
+
+abbrev pub eqs : List ℕ → List ℕ → Bool
+eqs [] [] = true
+eqs [] (y ∷ ys) = false
+eqs (x ∷ xs) [] = false
+eqs (x ∷ xs) (y ∷ ys) = eqb x y && eqs xs ys

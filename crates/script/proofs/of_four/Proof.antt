@@ -3,7 +3,7 @@ use Prim.Native.Nat.{ℕ}
 use mathlib.Core.Path.{refl, ap, _∙_}
 use mathlib.Core.List.{List, [], _∷_}
 use borrow.Author.Needs.{needs}
-use Rattle.store.specs.Table.{eqs}
+use Rattle.wire.specs.Numbers.{eqs}
 use Rattle.script.specs.Words.{numberOf}
 use Rattle.script.specs.Commands.{writeOf, openOf, ofFour}
 use Rattle.script.proofs.Laws.{picked}

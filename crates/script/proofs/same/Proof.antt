@@ -4,7 +4,7 @@ use mathlib.Core.Path.{_≡_, refl, sym, _∙_}
 use mathlib.Core.Bool.{_&&_}
 use native.Mathlib.Omega.{arith}
 use lib.ListN.{length, drop}
-use Rattle.store.specs.Table.{eqs}
+use Rattle.wire.specs.Numbers.{eqs}
 use Rattle.script.proofs.Laws.{eqs-turn, eqs-end, eqs-other}
 use borrow.Author.Needs.{needs}
 use Rattle.script.proofs.same.Statement.{statement}
