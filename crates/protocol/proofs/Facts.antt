@@ -121,6 +121,15 @@ nowhere {A} {n} {l} e h = absurd (go l e h)
     go (t ∷ l) e (at q _) = eqb-false (t .number) n (not-true (eqb (t .number) n) (and-left (not (eqb (t .number) n)) (lacks n l) e)) q
     go (t ∷ l) e (past _ s) = go l (and-right (not (eqb (t .number) n)) (lacks n l) e) s
 
+-- past a test of another number, and at the only one that has the number
+skip : {n : ℕ} {t : Test} {l : List Test} → Stopped n (t ∷ l) → eqb (t .number) n ≡ false → (t .holds ≡ false) × Stopped n l
+skip (at q h) e = absurd (eqb-false _ _ e q)
+skip (past h s) e = (h, s)
+
+only : {n : ℕ} {t : Test} {l : List Test} → Stopped n (t ∷ l) → lacks n l ≡ true → t .holds ≡ true
+only (at q h) e = h
+only (past h s) e = nowhere e s
+
 -- ---- refusal 22: no table's fence is above the wiring number
 
 pub never-22 : (s : State) → Reach s → (x : Entry) → Mem x (s .trace) → x .number ≡ fenceAbove → ⊥
@@ -132,10 +141,7 @@ never-22 = every-entry (λ x. x .number ≡ fenceAbove → ⊥) (λ s r e en q. 
     above s r j (After c) h = let g = tables-keep s r j .fence in let l : s .chain .wiring .0 < s .table j .fence .0 = ltb-true _ _ h in omega arith
 
     fence : (s : State) → Reach s → (j : ℕ) → Stopped fenceAbove (fenceTests (s .chain) (s .table j)) → ⊥
-    fence s r j (at q h) = omega arith
-    fence s r j (past _ (at q h)) = omega arith
-    fence s r j (past _ (past _ (at q h))) = omega arith
-    fence s r j (past _ (past _ (past _ (at q h)))) = above s r j (s .chain .change) h
+    fence s r j h = above s r j (s .chain .change) (only (skip (skip (skip h refl .1) refl .1) refl .1) refl)
 
     by : (s : State) → Reach s → (e : Event) → Stopped fenceAbove (testsOf e s) → ⊥
     by s r (fromClient p) h = nowhere refl h
@@ -183,19 +189,16 @@ never-10 = every-entry (λ x. x .number ≡ sessionOver → ⊥) (λ s r e en q.
     over s r j (At i) p e h = let l = sessions-low s r j i in let g = ltb-true (p .head .version .session .0) _ h in omega arith
 
     node : (s : State) → Reach s → (j : ℕ) (p : Packet) → Enabled (atNode j p) s → Stopped sessionOver (nodeTests (s .table j) p (find (p .key) (s .table j .slots))) → ⊥
-    node s r j p en (at q _) = omega arith
-    node s r j p en (past _ (at q _)) = omega arith
-    node s r j p en (past _ (past _ (at q _))) = omega arith
-    node s r j p en (past _ (past _ (past _ (at q _)))) = omega arith
-    node s r j p en (past e₄ (past e₇ (past _ (past _ (at q h))))) =
-        let a = or-false (not (eqb (p .head .to) (s .table j .id))) (not (eqb (p .head .from) 0) || not (eqb (p .head .answer) query)) e₄ in
+    node s r j p en st =
+        let q₄ = skip st refl in
+        let q₇ = skip (q₄ .1) refl in
+        let h = only (skip (skip (q₇ .1) refl .1) refl .1) refl in
+        let a = or-false (not (eqb (p .head .to) (s .table j .id))) (not (eqb (p .head .from) 0) || not (eqb (p .head .answer) query)) (q₄ .0) in
         let b = or-false (not (eqb (p .head .from) 0)) (not (eqb (p .head .answer) query)) (a .1) in
         let to : p .head .to ≡ j = same _ _ (a .0) ∙ tables-keep s r j .id in
-        let live = awake-live (invariant [] s r) p (en .0) (rw to (en .1)) (same _ _ (b .0)) (same _ _ (b .1)) (let h : s .table (p .head .to) .fence .0 ≤ p .head .stamp .0 = rw to (ltb-false _ _ e₇) in omega arith) in
+        let live = awake-live (invariant [] s r) p (en .0) (rw to (en .1)) (same _ _ (b .0)) (same _ _ (b .1)) (let h : s .table (p .head .to) .fence .0 ≤ p .head .stamp .0 = rw to (ltb-false _ _ (q₇ .0)) in omega arith) in
         let low : p .head .version .session ≡ s .chain .session = invariant [] s r .packets p (en .0) .current live (reflect-unnumbered p .0 (and-left (isUnnumbered p) _ h)) in
         over s r j (find (p .key) (s .table j .slots)) p (ap (λ (z : Session). z .0) low) (and-right (isUnnumbered p) _ h)
-    node s r j p en (past _ (past _ (past _ (past _ (past _ (at q _)))))) = omega arith
-    node s r j p en (past _ (past _ (past _ (past _ (past _ (past _ (at q _))))))) = omega arith
 
     by : (s : State) → Reach s → (e : Event) → Enabled e s → Stopped sessionOver (testsOf e s) → ⊥
     by s r (fromClient p) en h = nowhere refl h
