@@ -256,14 +256,22 @@ joined {i} {j} after named fresh (x ∷ l) a = go after refl (eqb x named) refl 
     side p (inl q) = behind (q .0) (first p (q .1))
     side p (inr m) = old (first p m)
 
+    put-behind : after ≡ true → x ≡ named → Ahead i j (x ∷ (fresh ∷ l)) → Joined after i j named fresh (x ∷ l)
+    put-behind b e (first p (here q)) = just-behind q (p ∙ e) b
+    put-behind b e (first p (there m)) = old (first p m)
+    put-behind b e (later (first p m)) = ahead p (first (sym e) m)
+    put-behind b e (later (later a)) = old (later a)
+
+    put-before : after ≡ false → x ≡ named → Ahead i j (fresh ∷ (x ∷ l)) → Joined after i j named fresh (x ∷ l)
+    put-before b e (first p m) = at b p e m
+    put-before b e (later a) = old a
+
+    put-later : Ahead i j (x ∷ ins after named fresh l) → (Ahead i j (ins after named fresh l) → Joined after i j named fresh l) → Joined after i j named fresh (x ∷ l)
+    put-later (first p m) ih = side p (mem-ins after named fresh l m)
+    put-later (later a) ih = up (ih a)
+
     go : (a : Bool) → after ≡ a → (b : Bool) → eqb x named ≡ b → Ahead i j (pick b (pick a (x ∷ (fresh ∷ l)) (fresh ∷ (x ∷ l))) (x ∷ ins after named fresh l)) → (Ahead i j (ins after named fresh l) → Joined after i j named fresh l) → Joined after i j named fresh (x ∷ l)
-    go true b true e (first p (here q)) ih = just-behind q (p ∙ eqb-true x named e) b
-    go true b true e (first p (there m)) ih = old (first p m)
-    go true b true e (later (first p m)) ih = ahead p (first (sym (eqb-true x named e)) m)
-    go true b true e (later (later a)) ih = old (later a)
-    go false b true e (first p m) ih = at b p (eqb-true x named e) m
-    go false b true e (later a) ih = old a
-    go true b false e (first p m) ih = side p (mem-ins after named fresh l m)
-    go true b false e (later a) ih = up (ih a)
-    go false b false e (first p m) ih = side p (mem-ins after named fresh l m)
-    go false b false e (later a) ih = up (ih a)
+    go true b true e a ih = put-behind b (eqb-true x named e) a
+    go false b true e a ih = put-before b (eqb-true x named e) a
+    go true b false e a ih = put-later a ih
+    go false b false e a ih = put-later a ih
