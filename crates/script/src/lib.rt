@@ -1,12 +1,11 @@
 // A line of a script: its words, and the command that they make.
 ghost use Prim.Native.Nat.{_≤_};
 ghost use mathlib.Core.Path.{_≡_};
-ghost use mathlib.Core.Bool.{_||_};
 ghost use lib.ListN.{length};
 ghost use lib.Dec.{eqb};
 ghost use Rattle.bytes.specs.Bytes.{indexOf};
 ghost use Rattle.wire.specs.Numbers.{pick, eqs};
-ghost use Rattle.script.specs.Sizes.{mostText, noSuch};
+ghost use Rattle.script.specs.Sizes.{noSuch};
 ghost use Rattle.script.specs.Words.{firstWord, behind, word, wordCount, isDigit, isLetter, plain, textOf, keyOf, valueOf, capped, longer, numberOf};
 ghost use Rattle.script.specs.Commands.{ofOne, ofTwo, bareOf, ofThree, writeOf, openOf, ofFour, ofCount, commandOf};
 use wire::OP_DELETE;
