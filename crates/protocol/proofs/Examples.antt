@@ -210,18 +210,26 @@ incident-demand = demand theKey (run incidentEvents incidentStart) incident-reac
 pub bench-entered : Reach (run benchEnters benchStart)
 bench-entered = runs benchEnters benchStart enters-allowed (starts _ _ _ bench-starts)
 
+-- what holds of each number of a list, and that a table knows the key
+each : (P : ℕ → Type 0) (x : ℕ) (l : List ℕ) → P x → ((j : ℕ) → Mem j l → P j) → (j : ℕ) → Mem j (x ∷ l) → P j
+each P x l p rest j (here e) = subst P (sym e) p
+each P x l p rest j (there m) = rest j m
+
+none : (P : ℕ → Type 0) (j : ℕ) → Mem j [] → P j
+none P j m = elim m [ ]
+
+abbrev Knows : State → ℕ → Type 0
+Knows s j = (x : Slot) × (held theKey (s .table j .slots) ≡ holds x)
+
 pub bench-ready : Ready (run benchEnters benchStart) theKey
 unfolding computing
-bench-ready = record { awake = λ j m. refl; still = refl; known = known; left = left }
+bench-ready = record { awake = λ j m. refl; still = refl; known = each P 1 (2 ∷ 3 ∷ []) entered (each P 2 (3 ∷ []) entered (each P 3 [] entered (none P))); left = left }
   where
-    at : (j i : ℕ) → held theKey (run benchEnters benchStart .table i .slots) ≡ holds (enteredSlot theKey) → j ≡ i → (x : Slot) × (held theKey (run benchEnters benchStart .table j .slots) ≡ holds x)
-    at j i h e = (enteredSlot theKey, subst (λ (n : ℕ). held theKey (run benchEnters benchStart .table n .slots) ≡ holds (enteredSlot theKey)) (sym e) h)
+    P : ℕ → Type 0
+    P = Knows (run benchEnters benchStart)
 
-    known : (j : ℕ) → Mem j (1 ∷ 2 ∷ 3 ∷ []) → (x : Slot) × (held theKey (run benchEnters benchStart .table j .slots) ≡ holds x)
-    known j (here e) = at j 1 refl e
-    known j (there (here e)) = at j 2 refl e
-    known j (there (there (here e))) = at j 3 refl e
-    known j (there (there (there m))) = elim m [ ]
+    entered : (x : Slot) × (holds (enteredSlot theKey) ≡ holds x)
+    entered = (enteredSlot theKey, refl)
 
     left : (x : Slot) → holds (enteredSlot theKey) ≡ holds x → x .version .session ≡ session 1 → x .version .sequence .0 < topSequence
     left x h e = absurd (let z = ap (λ (y : Slot). y .version .session .0) (holds-inj h) ∙ ap (λ (y : Session). y .0) e in omega arith)
@@ -243,20 +251,13 @@ slotB = slot theKey 2 (version 3 1) (66 ∷ [])
 
 pub head-ready : Ready (run headEvents twoStart) theKey
 unfolding computing
-head-ready = record { awake = awake; still = refl; known = known; left = left }
+head-ready = record { awake = each (λ j. s .halted j ≡ false) 3 (2 ∷ []) refl (each _ 2 [] refl (none _)); still = refl; known = each (Knows s) 3 (2 ∷ []) written (each (Knows s) 2 [] written (none _)); left = left }
   where
-    awake : (j : ℕ) → Mem j (3 ∷ 2 ∷ []) → run headEvents twoStart .halted j ≡ false
-    awake j (here e) = ap (λ (n : ℕ). run headEvents twoStart .halted n) e
-    awake j (there (here e)) = ap (λ (n : ℕ). run headEvents twoStart .halted n) e
-    awake j (there (there m)) = elim m [ ]
+    s : State
+    s = run headEvents twoStart
 
-    at : (j i : ℕ) → held theKey (run headEvents twoStart .table i .slots) ≡ holds slotB → j ≡ i → (x : Slot) × (held theKey (run headEvents twoStart .table j .slots) ≡ holds x)
-    at j i h e = (slotB, subst (λ (n : ℕ). held theKey (run headEvents twoStart .table n .slots) ≡ holds slotB) (sym e) h)
-
-    known : (j : ℕ) → Mem j (3 ∷ 2 ∷ []) → (x : Slot) × (held theKey (run headEvents twoStart .table j .slots) ≡ holds x)
-    known j (here e) = at j 3 refl e
-    known j (there (here e)) = at j 2 refl e
-    known j (there (there m)) = elim m [ ]
+    written : (x : Slot) × (holds slotB ≡ holds x)
+    written = (slotB, refl)
 
     left : (x : Slot) → holds slotB ≡ holds x → x .version .session ≡ session 3 → x .version .sequence .0 < topSequence
     left x h e = let z = ap (λ (y : Slot). y .version .sequence .0) (holds-inj h) in omega arith
