@@ -3,6 +3,7 @@ use native.Mathlib.Omega.{arith}
 use mathlib.Core.List.{[], _∷_}
 use lib.ListN.{length-set}
 use Rattle.numbers.proofs.Record.{stores}
+use mathlib.Core.Path.{ap₂, refl}
 use borrow.Author.Needs.{needs}
 use Rattle.numbers.proofs.give_change.Statement.{statement}
 use Rattle.numbers.proofs.give_change.Tie as tie
@@ -39,7 +40,8 @@ same-length c = search needs
 
 returns : tie.Need-returns
 returns c = let s = c .before .before .before .before .before .args in
-    stores (s .kind ∷ c .before .before .before .wide .result ∷ c .before .before .wide2 .result ∷ c .before .mark .result ∷ c .wide3 .result ∷ []) (s .l .now) 13 (omega arith) (cc)
+    stores (s .kind ∷ c .before .before .before .wide .result ∷ c .before .before .wide2 .result ∷ c .before .mark .result ∷ c .wide3 .result ∷ []) (s .l .now) 13 (omega arith)
+    (ap₂ _∷_ refl (ap₂ _∷_ (c .before .before .before .wide .ensures) (ap₂ _∷_ (c .before .before .wide2 .ensures) (ap₂ _∷_ (c .before .mark .ensures) (ap₂ _∷_ (c .wide3 .ensures) refl)))))
 
 pub give-change-spec : {M : Type 1} → statement M
 give-change-spec =

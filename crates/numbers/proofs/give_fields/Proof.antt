@@ -2,7 +2,7 @@
 use Rattle.numbers.specs.Fields.{fieldsOf}
 use native.Mathlib.Omega.{arith}
 use mathlib.Core.List.{[], _∷_}
-use mathlib.Core.Path.{sym}
+use mathlib.Core.Path.{ap₂, refl, sym}
 use lib.ListN.{length-set}
 use Rattle.numbers.proofs.Record.{stores}
 use Rattle.numbers.proofs.Fields.{given, not-given}
@@ -83,7 +83,17 @@ returns-2 c =
     given (s .f .now) h e
     (stores
     (c1 .wide8 .result ∷ c2 .wide82 .result ∷ c3 .wide .result ∷ c4 .wide2 .result ∷ c5 .wide3 .result ∷ h .request ∷ h .stamp .0 ∷ c6 .wide4 .result ∷ h .version .sequence .0 ∷ c .wide83 .result ∷ [])
-    (s .f .now) 0 (omega arith) (cc))
+    (s .f .now) 0 (omega arith)
+    (ap₂ _∷_ (c1 .wide8 .ensures)
+    (ap₂ _∷_ (c2 .wide82 .ensures)
+    (ap₂ _∷_ (c3 .wide .ensures)
+    (ap₂ _∷_ (c4 .wide2 .ensures)
+    (ap₂ _∷_ (c5 .wide3 .ensures)
+    (ap₂ _∷_ refl
+    (ap₂ _∷_ refl
+    (ap₂ _∷_ (c6 .wide4 .ensures)
+    (ap₂ _∷_ refl
+    (ap₂ _∷_ (c .wide83 .ensures) refl)))))))))))
 
 pub give-fields-spec : {M : Type 1} → statement M
 give-fields-spec =

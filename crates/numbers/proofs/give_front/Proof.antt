@@ -1,6 +1,7 @@
 -- `numbers::give_front`: nine stores in a row are one put.
 use native.Mathlib.Omega.{arith}
 use mathlib.Core.List.{[], _∷_}
+use mathlib.Core.Path.{ap₂, refl}
 use lib.ListN.{length-set}
 use Rattle.numbers.proofs.Record.{stores}
 use borrow.Author.Needs.{needs}
@@ -100,7 +101,16 @@ returns c = let c8 = c .before in
     let s = c1 .before .before .args in
     stores
     (c1 .wide8 .result ∷ c2 .wide .result ∷ c3 .wide2 .result ∷ c4 .wide3 .result ∷ c5 .wide4 .result ∷ c6 .wide5 .result ∷ c7 .wide6 .result ∷ c8 .wide7 .result ∷ c .wide9 .result ∷ [])
-    (s .l .now) 0 (omega arith) (cc)
+    (s .l .now) 0 (omega arith)
+    (ap₂ _∷_ (c1 .wide8 .ensures)
+    (ap₂ _∷_ (c2 .wide .ensures)
+    (ap₂ _∷_ (c3 .wide2 .ensures)
+    (ap₂ _∷_ (c4 .wide3 .ensures)
+    (ap₂ _∷_ (c5 .wide4 .ensures)
+    (ap₂ _∷_ (c6 .wide5 .ensures)
+    (ap₂ _∷_ (c7 .wide6 .ensures)
+    (ap₂ _∷_ (c8 .wide7 .ensures)
+    (ap₂ _∷_ (c .wide9 .ensures) refl)))))))))
 
 pub give-front-spec : {M : Type 1} → statement M
 give-front-spec =

@@ -2,6 +2,7 @@
 use native.Mathlib.Omega.{arith}
 use mathlib.Core.List.{[], _∷_}
 use Rattle.numbers.proofs.Record.{stores}
+use mathlib.Core.Path.{ap₂, refl}
 use borrow.Author.Needs.{needs}
 use Rattle.numbers.proofs.give_rest.Statement.{statement}
 use Rattle.numbers.proofs.give_rest.Tie as tie
@@ -32,7 +33,8 @@ same-length c = search needs
 
 returns : tie.Need-returns
 returns c = let s = c .before .before .before .before .args in
-    stores (s .wiring .0 ∷ c .before .before .wide .result ∷ c .before .wide2 .result ∷ c .wide3 .result ∷ []) (s .l .now) 9 (omega arith) (cc)
+    stores (s .wiring .0 ∷ c .before .before .wide .result ∷ c .before .wide2 .result ∷ c .wide3 .result ∷ []) (s .l .now) 9 (omega arith)
+    (ap₂ _∷_ refl (ap₂ _∷_ (c .before .before .wide .ensures) (ap₂ _∷_ (c .before .wide2 .ensures) (ap₂ _∷_ (c .wide3 .ensures) refl))))
 
 pub give-rest-spec : {M : Type 1} → statement M
 give-rest-spec =
