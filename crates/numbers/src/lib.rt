@@ -1,6 +1,6 @@
 // The chain record, the fields of a packet and the answers that are enums, as numbers, as they cross to C.
 ghost use mathlib.Core.Path.{_≡_};
-ghost use Prim.Native.Nat.{_<_};
+ghost use Prim.Native.Nat.{_+_, _<_, _≤_};
 ghost use mathlib.Core.List.{[], _∷_};
 ghost use lib.ListN.{length, getD};
 ghost use Rattle.be.specs.Be.{put};
@@ -206,19 +206,24 @@ fn joining_of(ch: Change) -> Joining
     }
 }
 
+// All of ids, from `at` on.
+fn give_ids(l: &mut [u32], at: usize, ids: &[u16])
+    requires { ⌜ at + length (now ids) ≤ length (now l) ⌝ }
+    ensures { λ _. ⌜ now (l .exit) ≡ put (now (l .entry)) at (now (ids .entry)) ⌝ }
+{
+    let mut i = 0;
+    while i < ids.len() {
+        l[at + i] = wide(ids[i]);
+        i += 1;
+    }
+}
+
 fn give_front(l: &mut [u32], n: u8, places: [u16; 8])
     requires { ⌜ length (now l) ≡ recordSize ⌝ }
     ensures { λ _. ⌜ now (l .exit) ≡ put (now (l .entry)) 0 (frontNumbers n places) ⌝ }
 {
     l[0] = wide8(n);
-    l[1] = wide(places[0]);
-    l[2] = wide(places[1]);
-    l[3] = wide(places[2]);
-    l[4] = wide(places[3]);
-    l[5] = wide(places[4]);
-    l[6] = wide(places[5]);
-    l[7] = wide(places[6]);
-    l[8] = wide(places[7]);
+    give_ids(l, 1, &places);
 }
 
 fn give_rest(l: &mut [u32], wiring: Stamp, session: Session, highest: u16, count: u16)
