@@ -1,7 +1,7 @@
 -- The fields that the code makes of numbers are those that they stand for.
 use Prim.Native.Nat.{ℕ, zero, suc, _+_, _<_, _≤_}
 use mathlib.Core.Path.{_≡_, refl, sym, _∙_}
-use mathlib.Core.List.{List}
+use mathlib.Core.List.{List, [], _∷_}
 use mathlib.Core.Bool.{false, _&&_}
 use native.Mathlib.Omega.{arith}
 use lib.ListN.{length, getD}
@@ -83,9 +83,13 @@ head-is f s a b c d e g v l = cc (low-bits (s .op), low-bits (s .answer), low-bi
 
 -- ---- going out
 
-pub given : {g : List ℕ} (f : List ℕ) (h : Head) → length f ≡ fieldsSize → g ≡ put f 0 (fieldsOf h) → g ≡ fieldsGiven f h
+-- in two parts, one behind the other
+pub given : {g k : List ℕ} (f : List ℕ) (h : Head) → length f ≡ fieldsSize
+    → g ≡ put f 0 (h .op ∷ h .answer ∷ h .from ∷ h .to ∷ h .client ∷ [])
+    → k ≡ put g 5 (h .request ∷ h .stamp .0 ∷ h .version .session .0 ∷ h .version .sequence .0 ∷ h .length ∷ [])
+    → k ≡ fieldsGiven f h
 unfolding fieldsGiven fieldsOf
-given f h e p = finish (grow (fieldsOf h) fieldsSize (start f) p refl) (omega arith) ∙ sym (pick-true _ _ _ (eq-eqb (length f) fieldsSize e))
+given f h e p q = finish (grow _ fieldsSize (grow _ 5 (start f) p refl) q refl) (omega arith) ∙ sym (pick-true _ _ _ (eq-eqb (length f) fieldsSize e))
 
 pub not-given : (f : List ℕ) (h : Head) → (length f ≡ fieldsSize → ⊥) → fieldsGiven f h ≡ f
 unfolding fieldsGiven

@@ -6,7 +6,7 @@ ghost use lib.ListN.{length, getD};
 ghost use Rattle.be.specs.Be.{put};
 ghost use Rattle.wire.specs.Packet.{writingNumber};
 ghost use Rattle.numbers.specs.Record.{recordSize, topByte, topId, within, lowBits, changeFits, recordFits, noRecord, recordOr, placesMade, joiningMade, chainOf, changeOf, Stands, markOf, kindOf, joiningOf, frontNumbers, changeNumbers, numbersOf, Settles, placesOf};
-ghost use Rattle.numbers.specs.Fields.{fieldsFit, noHead, headFrom, FieldsStand, headOr, fieldsGiven};
+ghost use Rattle.numbers.specs.Fields.{fieldsSize, fieldsFit, noHead, headFrom, FieldsStand, headOr, fieldsGiven};
 ghost use Rattle.numbers.specs.Answers.{outcomeCode, foundCode};
 use steps::Chain;
 use steps::Change;
@@ -350,6 +350,32 @@ pub fn head_of(f: &[u32]) -> Head
     if fields_fit(f) { head_at(f) } else { no_head() }
 }
 
+// What is asked or answered, and of whom.
+fn give_address(f: &mut [u32], op: u8, answer: u8, from: u16, to: u16, client: u16)
+    requires { ⌜ length (now f) ≡ fieldsSize ⌝ }
+    ensures { λ _. ⌜ now (f .exit) ≡ put (now (f .entry)) 0 (op ∷ answer ∷ from ∷ to ∷ client ∷ []) ⌝ }
+{
+    f[0] = wide8(op);
+    f[1] = wide8(answer);
+    f[2] = wide(from);
+    f[3] = wide(to);
+    f[4] = wide(client);
+}
+
+// Which request it is, under which wiring, with which version, and n bytes of value.
+fn give_marks(f: &mut [u32], request: u32, stamp: Stamp, version: Version, n: u8)
+    requires { ⌜ length (now f) ≡ fieldsSize ⌝ }
+    ensures { λ _. ⌜ now (f .exit) ≡ put (now (f .entry)) 5 (request ∷ stamp .0 ∷ version .session .0 ∷ version .sequence .0 ∷ n ∷ []) ⌝ }
+{
+    let session = version.session;
+    let sequence = version.sequence;
+    f[5] = request;
+    f[6] = stamp.0;
+    f[7] = wide(session.0);
+    f[8] = sequence.0;
+    f[9] = wide8(n);
+}
+
 // The fields go out where there is room for just them.
 pub fn give_fields(f: &mut [u32], h: Head)
     ensures { λ _. ⌜ now (f .exit) ≡ fieldsGiven (now (f .entry)) h ⌝ }
@@ -359,18 +385,8 @@ pub fn give_fields(f: &mut [u32], h: Head)
     }
     let stamp = h.stamp;
     let version = h.version;
-    let session = version.session;
-    let sequence = version.sequence;
-    f[0] = wide8(h.op);
-    f[1] = wide8(h.answer);
-    f[2] = wide(h.from);
-    f[3] = wide(h.to);
-    f[4] = wide(h.client);
-    f[5] = h.request;
-    f[6] = stamp.0;
-    f[7] = wide(session.0);
-    f[8] = sequence.0;
-    f[9] = wide8(h.length);
+    give_address(f, h.op, h.answer, h.from, h.to, h.client);
+    give_marks(f, h.request, stamp, version, h.length);
 }
 
 // ---- answers
