@@ -105,10 +105,10 @@ pub fits-not : (l : List ℕ) → (length l ≡ recordSize → ⊥) → recordFi
 unfolding recordFits
 fits-not l n = rw (ne-eqb (length l) recordSize n)
 
-pub fits-is : (l : List ℕ) {a b : Bool} → length l ≡ recordSize → a ≡ within topId 8 l 1 → b ≡ changeFits l
-    → (leb (getD l 0 0) topByte && (a && (within topId 3 l 10 && b))) ≡ recordFits l
+pub fits-is : (l : List ℕ) → length l ≡ recordSize
+    → (leb (getD l 0 0) topByte && (within topId 8 l 1 && (within topId 3 l 10 && changeFits l))) ≡ recordFits l
 unfolding recordFits
-fits-is l e f g = rw (f, g, eq-eqb (length l) recordSize e)
+fits-is l e = rw (eq-eqb (length l) recordSize e)
 
 pub stands-record : (l : List ℕ) → Stands l → recordOf l ≡ ok (chainOf l)
 unfolding recordOf

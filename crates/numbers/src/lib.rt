@@ -3,6 +3,7 @@ ghost use mathlib.Core.Path.{_≡_};
 ghost use Prim.Native.Nat.{_+_, _<_, _≤_};
 ghost use mathlib.Core.List.{[], _∷_};
 ghost use lib.ListN.{length, getD};
+ghost use lib.Dec.{leb};
 ghost use Rattle.be.specs.Be.{put};
 ghost use Rattle.wire.specs.Packet.{writingNumber};
 ghost use Rattle.numbers.specs.Record.{recordSize, topByte, topId, within, lowBits, changeFits, recordFits, noRecord, recordOr, placesMade, joiningMade, chainOf, changeOf, Stands, markOf, kindOf, joiningOf, frontNumbers, changeNumbers, numbersOf, Settles, placesOf};
@@ -60,20 +61,36 @@ fn byte_at(l: &[u32], i: usize) -> u8
     (l[i] % (TOP_BYTE + 1)) as u8
 }
 
+// Whether the number at a place has at most 16 bits.
+fn id_fits(l: &[u32], i: usize) -> bool
+    requires { ⌜ i < length (now l) ⌝ }
+    ensures { λ r. ⌜ r ≡ leb (getD (now (l .entry)) i 0) topId ⌝ }
+{
+    l[i] <= TOP_ID
+}
+
+// Whether the number at a place has at most 8 bits.
+fn byte_fits(l: &[u32], i: usize) -> bool
+    requires { ⌜ i < length (now l) ⌝ }
+    ensures { λ r. ⌜ r ≡ leb (getD (now (l .entry)) i 0) topByte ⌝ }
+{
+    l[i] <= TOP_BYTE
+}
+
 // ---- the record, coming in
 
 fn places_fit(l: &[u32]) -> bool
     requires { ⌜ length (now l) ≡ recordSize ⌝ }
     ensures { λ r. ⌜ r ≡ within topId 8 (now (l .entry)) 1 ⌝ }
 {
-    (l[1] <= TOP_ID)
-        & (l[2] <= TOP_ID)
-        & (l[3] <= TOP_ID)
-        & (l[4] <= TOP_ID)
-        & (l[5] <= TOP_ID)
-        & (l[6] <= TOP_ID)
-        & (l[7] <= TOP_ID)
-        & (l[8] <= TOP_ID)
+    id_fits(l, 1)
+        & id_fits(l, 2)
+        & id_fits(l, 3)
+        & id_fits(l, 4)
+        & id_fits(l, 5)
+        & id_fits(l, 6)
+        & id_fits(l, 7)
+        & id_fits(l, 8)
 }
 
 fn change_fits(l: &[u32]) -> bool
@@ -81,8 +98,7 @@ fn change_fits(l: &[u32]) -> bool
     ensures { λ r. ⌜ r ≡ changeFits (now (l .entry)) ⌝ }
 {
     (l[13] == 0)
-        | ((l[13] <= 2)
-            & (((l[14] <= TOP_ID) & (l[15] <= TOP_ID)) & ((l[16] <= 1) & (l[17] <= TOP_ID))))
+        | ((l[13] <= 2) & ((id_fits(l, 14) & id_fits(l, 15)) & ((l[16] <= 1) & id_fits(l, 17))))
 }
 
 fn fits(l: &[u32]) -> bool
@@ -91,9 +107,8 @@ fn fits(l: &[u32]) -> bool
     if l.len() != RECORD_SIZE {
         return false;
     }
-    (l[0] <= TOP_BYTE)
-        & (places_fit(l)
-            & (((l[10] <= TOP_ID) & (l[11] <= TOP_ID) & (l[12] <= TOP_ID)) & change_fits(l)))
+    byte_fits(l, 0)
+        & (places_fit(l) & ((id_fits(l, 10) & id_fits(l, 11) & id_fits(l, 12)) & change_fits(l)))
 }
 
 fn places_at(l: &[u32]) -> [u16; 8]
@@ -305,9 +320,8 @@ fn fields_fit(f: &[u32]) -> bool
     if f.len() != FIELDS_SIZE {
         return false;
     }
-    ((f[0] <= TOP_BYTE) & (f[1] <= TOP_BYTE))
-        & (((f[2] <= TOP_ID) & (f[3] <= TOP_ID) & (f[4] <= TOP_ID))
-            & ((f[7] <= TOP_ID) & (f[9] <= TOP_BYTE)))
+    (byte_fits(f, 0) & byte_fits(f, 1))
+        & ((id_fits(f, 2) & id_fits(f, 3) & id_fits(f, 4)) & (id_fits(f, 7) & byte_fits(f, 9)))
 }
 
 fn head_at(f: &[u32]) -> Head

@@ -1,5 +1,6 @@
 -- `numbers::fits`: the tests of all numbers.
-use mathlib.Core.Path.{sym}
+use mathlib.Core.Bool.{_&&_}
+use mathlib.Core.Path.{sym, ap₂, _∙_}
 use Rattle.numbers.proofs.Record.{fits-not, fits-is}
 use borrow.Author.Needs.{needs}
 use Rattle.numbers.proofs.fits.Statement.{statement}
@@ -8,37 +9,43 @@ use Rattle.numbers.proofs.fits.Tie as tie
 returns : tie.Need-returns
 returns c = sym (fits-not _ (c .if1 .taken))
 
-shared-slice-read-result : tie.Need-shared-slice-read-result
-shared-slice-read-result c = search needs
+byte-fits-requires : tie.Need-byte-fits-requires
+byte-fits-requires c κs = search needs
 
 places-fit-requires : tie.Need-places-fit-requires
 places-fit-requires c κs = search needs
 
-shared-slice-read-result-2 : tie.Need-shared-slice-read-result-2
-shared-slice-read-result-2 c = search needs
+id-fits-requires : tie.Need-id-fits-requires
+id-fits-requires c κs = search needs
 
-shared-slice-read-result-3 : tie.Need-shared-slice-read-result-3
-shared-slice-read-result-3 c = search needs
+id-fits-requires-2 : tie.Need-id-fits-requires-2
+id-fits-requires-2 c κs = search needs
 
-shared-slice-read-result-4 : tie.Need-shared-slice-read-result-4
-shared-slice-read-result-4 c = search needs
+id-fits-requires-3 : tie.Need-id-fits-requires-3
+id-fits-requires-3 c κs = search needs
 
 change-fits-requires : tie.Need-change-fits-requires
 change-fits-requires c κs = search needs
 
 returns-2 : tie.Need-returns-2
 returns-2 c =
-    fits-is _ (c .before .before .before .before .before .before .if1 .left) (c .before .before .before .before .places-fit .ensures) (c .change-fits .ensures)
+    let c5 = c .before in
+    let c4 = c5 .before in
+    let c3 = c4 .before in
+    let c2 = c3 .before in
+    let c1 = c2 .before in
+    ap₂ _&&_ (c1 .byte-fits .ensures) (ap₂ _&&_ (c2 .places-fit .ensures) (ap₂ _&&_ (ap₂ _&&_ (ap₂ _&&_ (c3 .id-fits .ensures) (c4 .id-fits2 .ensures)) (c5 .id-fits3 .ensures)) (c .change-fits .ensures)))
+    ∙ fits-is _ (c1 .before .if1 .left)
 
 pub fits-spec : {M : Type 1} → statement M
 fits-spec =
     tie.close
     (tie.spec
     returns
-    shared-slice-read-result
+    byte-fits-requires
     places-fit-requires
-    shared-slice-read-result-2
-    shared-slice-read-result-3
-    shared-slice-read-result-4
+    id-fits-requires
+    id-fits-requires-2
+    id-fits-requires-3
     change-fits-requires
     returns-2)
