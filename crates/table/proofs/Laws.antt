@@ -8,24 +8,24 @@ use native.Mathlib.Nat.{add-suc, add-zero, sub-zero}
 use native.Mathlib.Omega.{arith}
 use native.Mathlib.Decide.{decLt, ℕ-discrete}
 use native.Mathlib.Numerals.{add-one}
-use lib.ListN.{length, getD, take, drop, replicate, drop-of-length-le, length-drop, length-take, length-append, length-replicate, replicate-append-replicate}
+use lib.ListN.{length, getD, take, drop, set, replicate, length-set, drop-of-length-le, length-drop, length-take, length-append, length-replicate, replicate-append-replicate}
 use lib.Seq.{drop-cons, drop-at, getD-drop, getD-take, length-take-le, take-all, slice, slice-cons, slice-empty, take-add}
 use lib.Dec.{eqb, ltb, leb}
 use borrow.Author.Tests.{lt-ltb, eq-eqb, ne-eqb}
-use Rattle.be.specs.Be.{be, put, Bytes}
-use Rattle.be.proofs.Laws.{Front, be-take, be-drop, be-injective, part-put, put-back}
+use Rattle.be.specs.Be.{be, put, digits, Bytes}
+use Rattle.be.proofs.Laws.{Front, start, grow, finish, be-take, be-drop, be-injective, part-put, put-back}
 use Rattle.wire.specs.Numbers.{pick}
 use Rattle.wire.specs.Packet.{keySize, valueSize}
 use Rattle.wire.specs.Version.{version, isZero, isGiven}
 use Rattle.wire.proofs.Numbers.{Reflects, reflects-yes, reflects-no, reflect-eqb, reflect-ltb, reflect-leb, reflect-not, reflect-or, reflect-and, pick-true, pick-false, pick-case}
 use Rattle.store.specs.declared.Found.{Found}
 use Rattle.store.specs.declared.Found.the-variants.{At, Nothing}
-use Rattle.store.specs.Table.{Slot, slotOf, rowOf, freeSlot, mostSlots, wholeSlots, free, headSize, rowSize, stateAt, sizeAt, valueAt, entered, valued, deleted, rowAt, row, slots, allZero, Zero, rowOk, rowsOk, has, isFreeSlot, firstFrom, find}
+use Rattle.store.specs.Table.{Slot, slotOf, rowOf, freeSlot, mostSlots, wholeSlots, free, headSize, rowSize, stateAt, sizeAt, valueAt, entered, valued, deleted, rowAt, row, slots, allZero, Zero, rowOk, rowsOk, has, isFreeSlot, firstFrom, find, blankBytes}
 use Rattle.store.proofs.Slot.{length-rowOf, slot-bytes, zero-at}
 use Rattle.store.proofs.Rows.{length-slots, getD-slots, length-row}
 use Rattle.store.proofs.Rules.{reflect-zero, bytes-row}
 use Rattle.store.proofs.Find.{reflect-has, has-other, none-find}
-use Rattle.table.specs.Parts.{hasHalves, firstHalf, lowest, nearest, sized, slotWritten, slotStored, slotCopied}
+use Rattle.table.specs.Parts.{versionPart, hasHalves, firstHalf, lowest, nearest, sized, slotWritten, slotStored, slotCopied}
 
 -- two tests of one fact are equal
 same-test : {a b : Bool} {P Q : Type 0} → Reflects a P → Reflects b Q → P ↔ Q → a ≡ b
@@ -210,6 +210,11 @@ bare a b x y n f = go (ℕ-discrete n 0)
     go (yes e) = rw e
     go (no e) = rw (ne-eqb n 0 e, and-false a, and-false b, and-false (leb n valueSize), and-false ((a && x) || (b && y)))
 
+-- the version that a whole row has
+pub version-is : (r : List ℕ) → length r ≡ rowSize → versionPart r ≡ version (be 2 r 18) (be 4 r 20)
+unfolding versionPart slotOf
+version-is r h = pick-true _ _ _ (eq-eqb (length r) rowSize h)
+
 -- a row by its state
 module _ (r : List ℕ) where
   pub row-unused : getD r stateAt 0 ≡ free → rowOk r ≡ allZero r
@@ -243,6 +248,10 @@ pub rows-end : (n i : ℕ) (t : List ℕ) → n ≤ i → rowsOk (n - i) i t ≡
 rows-end n i t h = let e : n - i ≡ 0 = omega arith in rw e
 
 -- ---- what is written
+
+-- two stores keep the length
+pub length-stored : (l : List ℕ) (i j a b : ℕ) → length (set (set l i a) j b) ≡ length l
+length-stored l i j a b = simp length-set
 
 -- the end of a list that was cleared
 pub drop-cleared : (l : List ℕ) (at m k : ℕ) → at + m ≡ length l → k ≤ m → drop (at + k) (put l at (replicate m 0)) ≡ replicate (m - k) 0
@@ -302,3 +311,15 @@ blank-room t id n e = go (ℕ-discrete (length t) (rowAt n))
     go : Dec (length t ≡ rowAt n) → length t ≡ rowAt n
     go (yes p) = p
     go (no p) = absurd (reflect-or (reflect-eqb id 0) (reflect-or (reflect-eqb n 0) (reflect-or (reflect-ltb mostSlots n) (reflect-not (reflect-eqb (length t) (rowAt n))))) .1 e (inr (inr (inr p))))
+
+-- zeros, and then the id and the count behind the fence
+pub blanked : (t : List ℕ) (id n : ℕ) {z b c : List ℕ} → length t ≡ rowAt n → z ≡ put t 0 (replicate (length t) 0) → b ≡ put z 4 (digits 2 id) → c ≡ put b 6 (digits 2 n) → c ≡ blankBytes id n
+unfolding blankBytes
+blanked t id n {z} h e f g =
+    let m : length t ≡ 4 + (length t - 4) = omega arith in
+    let k : length t - headSize ≡ rowSize * n = omega arith in
+    let zeros : z ≡ replicate (length t) 0 = finish (grow (replicate (length t) 0) (length t) (start t) e (rw length-replicate (omega arith))) (omega arith) in
+    let parts : z ≡ replicate 4 0 ++ replicate (length t - 4) 0 = zeros ∙ ap (λ (j : ℕ). replicate {A = ℕ} j 0) m ∙ sym (replicate-append-replicate 4 (length t - 4) 0) in
+    let fence : Front z (digits 4 0) 4 z = record { size = refl; is = parts ∙ ap (λ (y : List ℕ). digits 4 0 ++ y) (sym (ap (drop 4) parts)) } in
+    behind (grow (digits 2 n) headSize (grow (digits 2 id) 6 fence f refl) g refl)
+    (ap (drop headSize) e ∙ drop-cleared t 0 (length t) headSize (omega arith) (omega arith) ∙ ap (λ (j : ℕ). replicate {A = ℕ} j 0) k)

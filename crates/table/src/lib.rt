@@ -181,8 +181,8 @@ fn fill(part: &mut [u8], key: &[u8], state: u8, v: Version, value: &[u8])
     let q = v.sequence;
     be::put_zeros(part, VALUE_AT, VALUE_SIZE);
     be::put_bytes(part, 0, key);
-    be::put8(part, STATE_AT, state);
-    be::put8(part, SIZE_AT, n as u8);
+    part[STATE_AT] = state;
+    part[SIZE_AT] = n as u8;
     be::put16(part, 18, s.0);
     be::put32(part, 20, q.0);
     be::put_bytes(part, VALUE_AT, value);
@@ -234,10 +234,10 @@ fn clear(t: &mut [u8], id: u16, n: u16)
     requires { ⌜ length (now t) ≡ rowAt n ⌝ }
     ensures { λ _. ⌜ now (t .exit) ≡ blankBytes id n ⌝ }
 {
-    be::put32(t, 0, 0);
+    let all = t.len();
+    be::put_zeros(t, 0, all);
     be::put16(t, 4, id);
     be::put16(t, 6, n);
-    be::put_zeros(t, HEAD_SIZE, ROW_SIZE * (n as usize));
 }
 
 // Makes a blank table of the slice: 0, or 1 where that is refused and nothing is written.

@@ -8,6 +8,7 @@ ghost use lib.Seq.{slice};
 ghost use Rattle.wire.specs.Version.{isGiven};
 ghost use Rattle.wire.specs.Packet.{valueSize};
 ghost use Rattle.store.specs.Table.{rowSize, valueAt, rowAt, allZero, rowOk, rowsOk};
+use crate::version;
 use crate::wide;
 use store::DELETED;
 use store::ENTERED;
@@ -84,7 +85,7 @@ fn row_ok(r: &[u8]) -> bool
         return zeros(r, 0, ROW_SIZE);
     }
     let n = wide(r[SIZE_AT]);
-    let v = Version::new(be::read16(r, 18), be::read32(r, 20));
+    let v = version(r);
     if state == VALUED {
         return valued_ok(r, n, v);
     }

@@ -6,12 +6,11 @@ use native.Mathlib.Omega.{arith}
 use borrow.Author.Needs.{needs}
 use lib.Dec.{eqb, leb}
 use lib.ListN.{drop, getD}
-use Rattle.be.specs.Be.{be}
 use Rattle.wire.specs.Packet.{valueSize}
-use Rattle.wire.specs.Version.{version, isZero, isGiven}
+use Rattle.wire.specs.Version.{isZero, isGiven}
 use Rattle.wire.specs.declared.Version.{Version}
 use Rattle.store.specs.Table.{rowSize, stateAt, valueAt, entered, deleted, allZero}
-use Rattle.table.proofs.Laws.{rest, row-unused, row-valued, row-bare}
+use Rattle.table.proofs.Laws.{rest, version-is, row-unused, row-valued, row-bare}
 use Rattle.table.proofs.rules.row_ok.Statement.{statement}
 use Rattle.table.proofs.rules.row_ok.Tie as tie
 
@@ -32,24 +31,19 @@ shared-slice-read-wide c = search needs
 wide-requires : tie.Need-wide-requires
 wide-requires c κs = search needs
 
-read16-requires : tie.Need-read16-requires
-read16-requires c κs = search needs
-
-read32-requires : tie.Need-read32-requires
-read32-requires c κs = search needs
-
-new-requires : tie.Need-new-requires
-new-requires c κs = search needs
+version-requires : tie.Need-version-requires
+version-requires c κs = search needs
 
 valued-ok-requires : tie.Need-valued-ok-requires
 valued-ok-requires c κs = search needs
 
 returns-2 : tie.Need-returns-2
 returns-2 c =
-    let r = c .before .before .before .before .before .before .before .before .before .before .args .r .now in
-    let v : c .before .before .new .result ≡ version (be 2 r 18) (be 4 r 20) = c .before .before .new .ensures ∙ ap₂ version (c .before .before .before .before .read16 .ensures) (c .before .before .before .read32 .ensures) in
+    let s = c .before .before .before .before .before .before .before .before in
+    let r = s .args .r .now in
+    let v = c .before .before .version .ensures ∙ version-is r (s .pre) in
     c .valued-ok .ensures
-    ∙ ap₂ (λ (n : ℕ) (w : Version). (leb n valueSize && isGiven w) && allZero (drop (valueAt + n) r)) (c .before .before .before .before .before .wide .ensures .0) v
+    ∙ ap₂ (λ (n : ℕ) (w : Version). (leb n valueSize && isGiven w) && allZero (drop (valueAt + n) r)) (c .before .before .before .wide .ensures .0) v
     ∙ sym (row-valued r (c .before .if2 .taken))
 
 is-zero-requires : tie.Need-is-zero-requires
@@ -63,12 +57,13 @@ zeros-requires-2 c κs = search needs
 
 returns-3 : tie.Need-returns-3
 returns-3 c =
-    let r = c .before .before .before .before .before .before .before .before .before .before .before .before .args .r .now in
-    let v : c .before .before .before .before .new .result ≡ version (be 2 r 18) (be 4 r 20) = c .before .before .before .before .new .ensures ∙ ap₂ version (c .before .before .before .before .before .before .read16 .ensures) (c .before .before .before .before .before .read32 .ensures) in
+    let s = c .before .before .before .before .before .before .before .before .before .before in
+    let r = s .args .r .now in
+    let v = c .before .before .before .before .version .ensures ∙ version-is r (s .pre) in
     ap₂ _&&_
     (ap₂ (λ (x y : Bool). (eqb (getD r stateAt 0) entered && x) || (eqb (getD r stateAt 0) deleted && y)) (c .before .before .is-zero .ensures ∙ ap isZero v) (c .before .is-given .ensures ∙ ap isGiven v))
-    (ap₂ (λ (n : ℕ) (z : Bool). eqb n 0 && z) (c .before .before .before .before .before .before .before .wide .ensures .0) (c .zeros2 .ensures ∙ ap allZero (rest r valueAt rowSize (omega arith))))
-    ∙ sym (row-bare r (c .before .before .before .before .before .before .before .before .before .if1 .left) (c .before .before .before .if2 .left))
+    (ap₂ (λ (n : ℕ) (z : Bool). eqb n 0 && z) (c .before .before .before .before .before .wide .ensures .0) (c .zeros2 .ensures ∙ ap allZero (rest r valueAt rowSize (omega arith))))
+    ∙ sym (row-bare r (c .before .before .before .before .before .before .before .if1 .left) (c .before .before .before .if2 .left))
 
 pub row-ok-spec : {M : Type 1} → statement M
 row-ok-spec =
@@ -79,9 +74,7 @@ row-ok-spec =
     returns
     shared-slice-read-wide
     wide-requires
-    read16-requires
-    read32-requires
-    new-requires
+    version-requires
     valued-ok-requires
     returns-2
     is-zero-requires
