@@ -44,20 +44,17 @@ fn number(h: Head, i: usize, stored: Version) -> Way
     requires { ⌜ ((h .op ≡ opRead → ⊥) × (h .version .sequence .0 ≡ 0)) ⌝ }
     ensures { λ r. ⌜ Settles h (At i) r (HasVersion i stored) ⌝ }
 {
-    let v = h.version;
-    let s = v.session;
-    let t = stored.session;
-    let u = stored.sequence;
-    if s.less(t) {
+    let s = h.version.session;
+    if s.less(stored.session) {
         return Way::Refused(wire::SESSION_OVER);
     }
-    if s.same(t) {
-        if u.last() {
+    if s.same(stored.session) {
+        if stored.sequence.last() {
             return Way::Refused(wire::NO_NUMBER_LEFT);
         }
         let next = Version {
             session: s,
-            sequence: u.next(),
+            sequence: stored.sequence.next(),
         };
         return sends(wire::QUERY, next, i);
     }
@@ -73,13 +70,11 @@ fn alter(h: Head, i: usize, stored: Version) -> Way
     requires { ⌜ (h .op ≡ opRead → ⊥) ⌝ }
     ensures { λ r. ⌜ Settles h (At i) r (HasVersion i stored) ⌝ }
 {
-    let v = h.version;
-    let q = v.sequence;
-    if q.same(Sequence(0)) {
+    if h.version.sequence.same(Sequence(0)) {
         return number(h, i, stored);
     }
-    if v.newer(stored) {
-        return sends(wire::QUERY, v, i);
+    if h.version.newer(stored) {
+        return sends(wire::QUERY, h.version, i);
     }
     Way::Refused(wire::NOT_NEWER)
 }
@@ -101,9 +96,7 @@ fn at_slot(h: Head, i: usize, state: u8, stored: Version) -> Way
 fn at_none(h: Head) -> Way
     ensures { λ r. ⌜ Settles h Nothing r (λ _. Unit {0}) ⌝ }
 {
-    let v = h.version;
-    let q = v.sequence;
-    if (h.op != wire::OP_READ) & !q.same(Sequence(0)) {
+    if (h.op != wire::OP_READ) & !h.version.sequence.same(Sequence(0)) {
         return Way::Refused(wire::KEY_MISSING);
     }
     sends(wire::ANSWER_NO_KEY, Version::new(0, 0), 0)
@@ -113,8 +106,7 @@ fn look(table: &[u8], packet: &[u8], h: Head) -> Way
     requires { ⌜ TableRules (now table) ⌝ }
     ensures { λ r. ⌜ behind (tableOf (now (table .entry))) (asked h (now (packet .entry))) (find (keyOf (now (packet .entry))) (tableOf (now (table .entry)) .slots)) ≡ outcome (tableOf (now (table .entry))) (asked h (now (packet .entry))) r ⌝ }
 {
-    let found = table::find(table, packet::key_of(packet));
-    match found {
+    match table::find(table, packet::key_of(packet)) {
         Found::At(i) => {
             let row = table::row(table, i);
             at_slot(h, i, table::state(row), table::version(row))
@@ -127,16 +119,13 @@ fn ask(table: &[u8], packet: &[u8], h: Head) -> Way
     requires { ⌜ TableRules (now table) ⌝ }
     ensures { λ r. ⌜ nodeStep (tableOf (now (table .entry))) (asked h (now (packet .entry))) ≡ outcome (tableOf (now (table .entry))) (asked h (now (packet .entry))) r ⌝ }
 {
-    let stamp = h.stamp;
-    let v = h.version;
-    let s = v.session;
     if (h.to != table::id(table)) | ((h.from != 0) | (h.answer != wire::QUERY)) {
         return Way::Refused(wire::MISADDRESSED);
     }
-    if stamp.less(table::fence(table)) {
+    if h.stamp.less(table::fence(table)) {
         return Way::Refused(wire::BELOW_FENCE);
     }
-    if (h.op != wire::OP_READ) & s.same(Session(0)) {
+    if (h.op != wire::OP_READ) & h.version.session.same(Session(0)) {
         return Way::Refused(wire::SESSIONLESS);
     }
     look(table, packet, h)
@@ -197,10 +186,15 @@ fn store_taken(r: Reply, table: &mut [u8], packet: &[u8], h: Head)
     if r.answer != wire::QUERY {
         return;
     }
-    let v = r.version;
-    let state = written(h.op);
     let value = packet::value_of(packet);
-    table::store(table, r.slot, packet::key_of(packet), state, v, value);
+    table::store(
+        table,
+        r.slot,
+        packet::key_of(packet),
+        written(h.op),
+        r.version,
+        value,
+    );
 }
 
 fn act(way: Way, table: &mut [u8], packet: &[u8], h: Head, out: &mut [u8]) -> u8
@@ -224,8 +218,7 @@ pub fn step(table: &mut [u8], packet: &[u8], out: &mut [u8]) -> u8
         if out.len() < wire::OUTLET_SIZE {
             return wire::SMALL_OUTLET;
         }
-        let reading = packet::read(packet);
-        match reading {
+        match packet::read(packet) {
             Reading::Fields(h) => act(ask(table, packet, h), table, packet, h, out),
             Reading::Unread(n) => n,
         }

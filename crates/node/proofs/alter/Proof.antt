@@ -10,7 +10,7 @@ same-requires : tie.Need-same-requires
 same-requires c κs = search needs
 
 number-requires : tie.Need-number-requires
-number-requires c κs = (c .before .before .before .before .pre, eqb-true _ _ (sym (c .before .same .ensures) ∙ c .if1 .taken))
+number-requires c κs = (c .before .before .pre, eqb-true _ _ (sym (c .before .same .ensures) ∙ c .if1 .taken))
 
 returns : tie.Need-returns
 returns c = search needs
@@ -24,7 +24,7 @@ sends-requires c κs = search needs
 returns-2 : tie.Need-returns-2
 returns-2 c =
     let c1 = c .before .before .before .before in
-    let s = c1 .before .before .before in
+    let s = c1 .before in
     let a = s .args in
     rw (c .sends .ensures)
     (newer-way (a .h) (a .i) (a .stored) (s .pre) (eqb-false _ _ (sym (c1 .same .ensures) ∙ c .before .before .before .if1 .left)) (sym (c .before .before .newer .ensures) ∙ c .before .if2 .taken))
@@ -32,7 +32,7 @@ returns-2 c =
 returns-3 : tie.Need-returns-3
 returns-3 c =
     let c1 = c .before .before .before in
-    let s = c1 .before .before .before in
+    let s = c1 .before in
     let a = s .args in
     older-way (a .h) (a .i) (a .stored) (s .pre) (eqb-false _ _ (sym (c1 .same .ensures) ∙ c .before .before .if1 .left)) (sym (c .before .newer .ensures) ∙ c .if2 .left)
 

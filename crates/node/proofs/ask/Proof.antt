@@ -14,7 +14,7 @@ id-requires c κs = search needs
 returns : tie.Need-returns
 returns c =
     let c1 = c .before .before .before .before in
-    let s = c1 .before .before .before .before .before .before in
+    let s = c1 .before .before .before in
     let t = s .args .table .now in
     let p = asked (s .args .h) (s .args .packet .now) in
     let here = rw (c1 .id .ensures ∙ id-table t (s .pre)) at (c .if1 .taken) in
@@ -29,7 +29,7 @@ less-requires c κs = search needs
 returns-2 : tie.Need-returns-2
 returns-2 c =
     let c1 = c .before .before .before .before .before .before .before in
-    let s = c1 .before .before .before .before .before .before in
+    let s = c1 .before .before .before in
     let t = s .args .table .now in
     let p = asked (s .args .h) (s .args .packet .now) in
     let here = rw (c1 .id .ensures ∙ id-table t (s .pre)) at (c .before .before .before .if1 .left) in
@@ -42,7 +42,7 @@ returns-3 : tie.Need-returns-3
 returns-3 c =
     let c2 = c .before .before .before .before .before in
     let c1 = c2 .before .before .before .before .before in
-    let s = c1 .before .before .before .before .before .before in
+    let s = c1 .before .before .before in
     let t = s .args .table .now in
     let p = asked (s .args .h) (s .args .packet .now) in
     let here = rw (c1 .id .ensures ∙ id-table t (s .pre)) at (c2 .before .if1 .left) in
@@ -57,7 +57,7 @@ returns-4 c =
     let c3 = c .before .before in
     let c2 = c3 .before .before .before .before in
     let c1 = c2 .before .before .before .before .before in
-    let s = c1 .before .before .before .before .before .before in
+    let s = c1 .before .before .before in
     let t = s .args .table .now in
     let p = asked (s .args .h) (s .args .packet .now) in
     let here = rw (c1 .id .ensures ∙ id-table t (s .pre)) at (c2 .before .if1 .left) in

@@ -14,8 +14,8 @@ key-of-requires c κs = search needs
 find-requires : tie.Need-find-requires
 find-requires c κs = search needs
 
-enum-known-found : tie.Need-enum-known-found
-enum-known-found c = search needs
+enum-known-i : tie.Need-enum-known-i
+enum-known-i c = search needs
 
 row-requires : tie.Need-row-requires
 row-requires c κs = search needs
@@ -42,7 +42,7 @@ returns c =
     let s = c1 .before .before .before .before in
     let t = s .args .table .now in
     let p = s .args .packet .now in
-    let found = is-found (s .pre) p (c1 .before .key-of .ensures) (c1 .find .ensures) (c2 .before .before .found .given .1) in
+    let found = is-found (s .pre) p (c1 .before .key-of .ensures) (c1 .find .ensures) (c2 .before .before .i .given .1) in
     ap (behind (tableOf t) (asked (s .args .h) p)) found
     ∙ c .at-slot .ensures (tableOf t) (keyOf p) (valueOf p) (found-state (s .pre) p found (c2 .row .ensures) (c .before .before .state .ensures), found-version (s .pre) p found (c2 .row .ensures) (c .before .version .ensures))
 
@@ -61,7 +61,7 @@ look-spec =
     (tie.spec
     key-of-requires
     find-requires
-    enum-known-found
+    enum-known-i
     row-requires
     state-requires
     version-requires

@@ -10,7 +10,7 @@ less-requires c κs = search needs
 
 returns : tie.Need-returns
 returns c =
-    let s = c .before .before .before .before .before .before in
+    let s = c .before .before .before in
     let a = s .args in
     over-way (a .h) (a .i) (a .stored) (s .pre .0) (s .pre .1) (sym (c .before .less .ensures) ∙ c .if1 .taken)
 
@@ -24,7 +24,7 @@ returns-2 : tie.Need-returns-2
 returns-2 c =
     let c2 = c .before .before .before in
     let c1 = c2 .before .before in
-    let s = c1 .before .before .before .before .before in
+    let s = c1 .before .before in
     let a = s .args in
     last-way (a .h) (a .i) (a .stored) (s .pre .0) (s .pre .1) (sym (c1 .less .ensures) ∙ c2 .before .if1 .left) (sym (c2 .same .ensures) ∙ c .before .before .if2 .taken) (sym (c .before .last .ensures) ∙ c .if3 .taken)
 
@@ -39,7 +39,7 @@ returns-3 c =
     let c3 = c .before .before .before in
     let c2 = c3 .before .before in
     let c1 = c2 .before .before in
-    let s = c1 .before .before .before .before .before in
+    let s = c1 .before .before in
     let a = s .args in
     rw (c .sends .ensures, c .before .next .ensures)
     (next-way (a .h) (a .i) (a .stored) (s .pre .0) (s .pre .1) (sym (c1 .less .ensures) ∙ c2 .before .if1 .left) (sym (c2 .same .ensures) ∙ c3 .before .if2 .taken) (sym (c3 .last .ensures) ∙ c .before .before .if3 .left))
@@ -51,7 +51,7 @@ returns-4 : tie.Need-returns-4
 returns-4 c =
     let c2 = c .before .before in
     let c1 = c2 .before .before in
-    let s = c1 .before .before .before .before .before in
+    let s = c1 .before .before in
     let a = s .args in
     rw (c .sends2 .ensures)
     (first-way (a .h) (a .i) (a .stored) (s .pre .0) (s .pre .1) (sym (c1 .less .ensures) ∙ c2 .before .if1 .left) (sym (c2 .same .ensures) ∙ c .before .if2 .left))

@@ -18,8 +18,8 @@ returns c = gives-small (keeps-rules (c .before .before .good2 .ensures) (c .bef
 read-requires : tie.Need-read-requires
 read-requires c κs = search needs
 
-enum-known-reading : tie.Need-enum-known-reading
-enum-known-reading c = search needs
+enum-known-h : tie.Need-enum-known-h
+enum-known-h c = search needs
 
 ask-requires : tie.Need-ask-requires
 ask-requires c κs = keeps-rules (c .before .before .before .before .before .before .before .good2 .ensures) (c .before .before .before .before .before .before .if1 .taken)
@@ -28,11 +28,11 @@ act-requires : tie.Need-act-requires
 act-requires c κs =
     let c2 = c .before .before .before .before .before .before .before in
     let p = c2 .before .before .before .before .before .before .before .before .args .packet .now in
-    let r = read-fields p _ (sym (c .before .before .before .before .before .reading .given .1) ∙ c2 .read .ensures) in
+    let r = read-fields p _ (sym (c .before .before .before .before .before .h .given .1) ∙ c2 .read .ensures) in
     (record { rules = keeps-rules (c2 .before .before .before .good2 .ensures) (c2 .before .before .if1 .taken); formed = r .formed; fields = r .head; step = c .before .before .ask .ensures }, c2 .before .if2 .left)
 
-enum-known-reading-2 : tie.Need-enum-known-reading-2
-enum-known-reading-2 c = search needs
+enum-known-n : tie.Need-enum-known-n
+enum-known-n c = search needs
 
 same-length-2 : tie.Need-same-length-2
 same-length-2 c = search needs
@@ -50,7 +50,7 @@ returns-3 : tie.Need-returns-3
 returns-3 c =
     let c2 = c .before .before .before in
     let p = c2 .before .before .before .before .before .before .before .before .args .packet .now in
-    gives-malformed (keeps-rules (c2 .before .before .before .good2 .ensures) (c2 .before .before .if1 .taken)) (c2 .before .if2 .left) (read-unread p _ (sym (c .before .reading2 .given .1) ∙ c2 .read .ensures))
+    gives-malformed (keeps-rules (c2 .before .before .before .good2 .ensures) (c2 .before .before .if1 .taken)) (c2 .before .if2 .left) (read-unread p _ (sym (c .before .n .given .1) ∙ c2 .read .ensures))
 
 same-length-5 : tie.Need-same-length-5
 same-length-5 c = search needs
@@ -66,10 +66,10 @@ step-spec =
     same-length
     returns
     read-requires
-    enum-known-reading
+    enum-known-h
     ask-requires
     act-requires
-    enum-known-reading-2
+    enum-known-n
     same-length-2
     same-length-3
     returns-2
