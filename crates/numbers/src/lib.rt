@@ -267,11 +267,9 @@ fn give(l: &mut [u32], c: Chain)
     ensures { λ _. ⌜ now (l .exit) ≡ numbersOf c ⌝ }
 {
     let places = c.places;
-    let wiring = c.wiring;
-    let session = c.session;
     let ch = c.change;
     give_front(l, c.length, places);
-    give_rest(l, wiring, session, c.highest, c.count);
+    give_rest(l, c.wiring, c.session, c.highest, c.count);
     give_change(l, kind_of(ch), joining_of(ch));
 }
 
@@ -279,13 +277,11 @@ fn give(l: &mut [u32], c: Chain)
 pub fn settle(l: &mut [u32], r: Ruling) -> u8
     ensures { λ n. ⌜ Settles (now (l .entry)) r n (now (l .exit)) ⌝ }
 {
-    let n = r.number;
-    if (n == 0) & (l.len() == RECORD_SIZE) {
-        let c = r.chain;
-        give(l, c);
+    if (r.number == 0) & (l.len() == RECORD_SIZE) {
+        give(l, r.chain);
         return 0;
     }
-    n
+    r.number
 }
 
 // ---- ids in chain order
@@ -381,12 +377,10 @@ fn give_marks(f: &mut [u32], request: u32, stamp: Stamp, version: Version, n: u8
     requires { ⌜ length (now f) ≡ fieldsSize ⌝ }
     ensures { λ _. ⌜ now (f .exit) ≡ put (now (f .entry)) 5 (request ∷ stamp .0 ∷ version .session .0 ∷ version .sequence .0 ∷ n ∷ []) ⌝ }
 {
-    let session = version.session;
-    let sequence = version.sequence;
     f[5] = request;
     f[6] = stamp.0;
-    f[7] = wide(session.0);
-    f[8] = sequence.0;
+    f[7] = wide(version.session.0);
+    f[8] = version.sequence.0;
     f[9] = wide8(n);
 }
 
@@ -397,10 +391,8 @@ pub fn give_fields(f: &mut [u32], h: Head)
     if f.len() != FIELDS_SIZE {
         return;
     }
-    let stamp = h.stamp;
-    let version = h.version;
     give_address(f, h.op, h.answer, h.from, h.to, h.client);
-    give_marks(f, h.request, stamp, version, h.length);
+    give_marks(f, h.request, h.stamp, h.version, h.length);
 }
 
 // ---- answers

@@ -176,15 +176,12 @@ fn fill(part: &mut [u8], key: &[u8], state: u8, v: Version, value: &[u8])
     requires { ⌜ (length (now part) ≡ rowSize) × (length (now key) ≡ keySize) × (length (now value) ≤ valueSize) ⌝ }
     ensures { λ _. ⌜ now (part .exit) ≡ rowOf (slot (now (key .entry)) state v (now (value .entry))) ⌝ }
 {
-    let n = value.len();
-    let s = v.session;
-    let q = v.sequence;
     be::put_zeros(part, VALUE_AT, VALUE_SIZE);
     be::put_bytes(part, 0, key);
     part[STATE_AT] = state;
-    part[SIZE_AT] = n as u8;
-    be::put16(part, 18, s.0);
-    be::put32(part, 20, q.0);
+    part[SIZE_AT] = value.len() as u8;
+    be::put16(part, 18, v.session.0);
+    be::put32(part, 20, v.sequence.0);
     be::put_bytes(part, VALUE_AT, value);
 }
 

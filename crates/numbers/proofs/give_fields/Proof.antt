@@ -21,7 +21,7 @@ returns-2 : tie.Need-returns-2
 returns-2 c =
     let c2 = c .before .before in
     let c1 = c2 .before .before .before .before in
-    let left = c1 .before .before .before .before in
+    let left = c1 .before .before in
     let s = left .before .before .args in
     given (s .f .now) (s .h) (left .if1 .left) (c1 .give-address .ensures) (c2 .give-marks .ensures)
 

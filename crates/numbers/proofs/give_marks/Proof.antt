@@ -34,7 +34,7 @@ same-length c = search needs
 
 returns : tie.Need-returns
 returns c =
-    let s = c .before .before .before .before .before .args in
+    let s = c .before .before .before .args in
     stores
     (s .request ∷ s .stamp .0 ∷ c .before .wide .result ∷ s .version .sequence .0 ∷ c .wide8 .result ∷ [])
     (s .f .now) 5 (omega arith)

@@ -33,17 +33,17 @@ put16-requires c κs = simp length-set (omega arith)
 
 put32-requires : tie.Need-put32-requires
 put32-requires c κs =
-    let s = c .before .before .before .before .before .before .before .before .before .before .before .before .before .before .before .before .before .before .args in
+    let s = c .before .before .before .before .before .before .before .before .before .before .before .before .before .before .before .before .args in
     omega (arith, length-stored (c .before .before .before .before .before .before .before .put-bytes .last .0) stateAt sizeAt (s .state) (length (s .value .now)))
 
 put-bytes-requires-2 : tie.Need-put-bytes-requires-2
 put-bytes-requires-2 c κs =
-    let s = c .before .before .before .before .before .before .before .before .before .before .before .before .before .before .before .before .before .before .before .before .before .before .args in
+    let s = c .before .before .before .before .before .before .before .before .before .before .before .before .before .before .before .before .before .before .before .before .args in
     omega (arith, length-stored (c .before .before .before .before .before .before .before .before .before .before .before .put-bytes .last .0) stateAt sizeAt (s .state) (length (s .value .now)))
 
 same-length : tie.Need-same-length
 same-length c =
-    let s = c .before .before .before .before .before .before .before .before .before .before .before .before .before .before .before .before .before .before .before .before .before .before .before .before .before .args in
+    let s = c .before .before .before .before .before .before .before .before .before .before .before .before .before .before .before .before .before .before .before .before .before .before .before .args in
     omega (arith, length-stored (c .before .before .before .before .before .before .before .before .before .before .before .before .before .before .put-bytes .last .0) stateAt sizeAt (s .state) (length (s .value .now)))
 
 returns : tie.Need-returns
@@ -54,7 +54,7 @@ returns c =
     let c5 = c6 .before .before .before .before in
     let c2 = c5 .before .before .before .before in
     let c1 = c2 .before .before .before .before in
-    let c0 = c1 .before .before .before .before .before .before .before in
+    let c0 = c1 .before .before .before .before .before in
     let s = c0 .args in
     let p = c0 .pre in
     let n = length (s .value .now) in
