@@ -21,18 +21,15 @@ use wire::Version;
 fn stray_client(h: Head) -> bool
     ensures { λ r. ⌜ ((p : List ℕ) → r ≡ strayClient (readAs h p)) ⌝ }
 {
-    let stamp = h.stamp;
-    let v = h.version;
-    (h.to != 0) | (!stamp.same(Stamp(0)) | ((h.answer != wire::QUERY) | !v.is_zero()))
+    (h.to != 0) | (!h.stamp.same(Stamp(0)) | ((h.answer != wire::QUERY) | !h.version.is_zero()))
 }
 
 fn stray_node(h: Head) -> bool
     ensures { λ r. ⌜ ((p : List ℕ) → r ≡ strayNode (readAs h p)) ⌝ }
 {
-    let v = h.version;
-    let q = v.sequence;
     let read = h.op == wire::OP_READ;
-    (h.to != 0) | ((h.answer == wire::QUERY) & (read | (!read & q.same(Sequence(0)))))
+    (h.to != 0)
+        | ((h.answer == wire::QUERY) & (read | (!read & h.version.sequence.same(Sequence(0)))))
 }
 
 // Whether a change stops what is addressed to a node.
@@ -220,8 +217,7 @@ pub fn step(c: Chain, packet: &[u8], out: &mut [u8]) -> Outcome
     if out.len() < wire::OUTLET_SIZE {
         return Outcome::Dropped(wire::SMALL_OUTLET);
     }
-    let reading = packet::read(packet);
-    match reading {
+    match packet::read(packet) {
         Reading::Unread(n) => Outcome::Dropped(n),
         Reading::Fields(h) => over_fields(c, h, packet, out),
     }

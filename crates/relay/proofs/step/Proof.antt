@@ -24,22 +24,22 @@ returns-2 c =
 read-requires : tie.Need-read-requires
 read-requires c κs = search needs
 
-enum-known-reading : tie.Need-enum-known-reading
-enum-known-reading c = search needs
+enum-known-n : tie.Need-enum-known-n
+enum-known-n c = search needs
 
-enum-known-reading-2 : tie.Need-enum-known-reading-2
-enum-known-reading-2 c = search needs
+enum-known-h : tie.Need-enum-known-h
+enum-known-h c = search needs
 
 over-fields-requires : tie.Need-over-fields-requires
 over-fields-requires c κs =
     let a = c .before .before .before .before .before .before .before .before .before .before .args in
-    ready (read-fields (a .packet .now) _ (sym (c .before .before .reading2 .given .1) ∙ c .before .before .before .before .read .ensures)) (c .before .before .before .before .before .if2 .left)
+    ready (read-fields (a .packet .now) _ (sym (c .before .before .h .given .1) ∙ c .before .before .before .before .read .ensures)) (c .before .before .before .before .before .if2 .left)
 
 returns-3 : tie.Need-returns-3
 returns-3 c =
     let a = c .before .before .before .before .before .before .before .before .before .args in
     let g = sym (c .before .before .before .before .before .before .good2 .ensures) ∙ not-false _ (c .before .before .before .before .before .if1 .left) in
-    let u = read-unread (a .packet .now) _ (sym (c .before .reading .given .1) ∙ c .before .before .before .read .ensures) in
+    let u = read-unread (a .packet .now) _ (sym (c .before .n .given .1) ∙ c .before .before .before .read .ensures) in
     gives (drops (call-malformed (a .c) (a .packet .now) (a .out .now) g (c .before .before .before .before .if2 .left) (u .0) (u .1)))
 
 same-length : tie.Need-same-length
@@ -49,7 +49,7 @@ returns-4 : tie.Need-returns-4
 returns-4 c =
     let a = c .before .before .before .before .before .before .before .before .before .before .before .before .before .args in
     let g = sym (c .before .before .before .before .before .before .before .before .before .before .good2 .ensures) ∙ not-false _ (c .before .before .before .before .before .before .before .before .before .if1 .left) in
-    let v = read-fields (a .packet .now) _ (sym (c .before .before .before .before .before .reading2 .given .1) ∙ c .before .before .before .before .before .before .before .read .ensures) in
+    let v = read-fields (a .packet .now) _ (sym (c .before .before .before .before .before .h .given .1) ∙ c .before .before .before .before .before .before .before .read .ensures) in
     gives (leaves-as (call-read (a .c) (a .packet .now) (a .out .now) g (c .before .before .before .before .before .before .before .before .if2 .left) v) (c .before .before .over-fields .ensures))
 
 pub step-spec : {M : Type 1} → statement M
@@ -60,8 +60,8 @@ step-spec =
     returns
     returns-2
     read-requires
-    enum-known-reading
-    enum-known-reading-2
+    enum-known-n
+    enum-known-h
     over-fields-requires
     returns-3
     same-length
