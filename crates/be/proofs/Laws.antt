@@ -11,7 +11,7 @@ use lib.ListN.{length, getD, take, drop, set, replicate, length-append, length-d
 use lib.Arith.{digits-div, digits-mod, digits-lt, mod-mul}
 use lib.Dec.{lit<, eqb}
 use lib.Pow.{pow-add}
-use lib.Seq.{getD-append-add, take-suc, take-add, getD-take, getD-drop, getD-at, sets, sets-eq, length-sets, paste, paste-zero, paste-suc, take-length, take-at, drop-append-add, drop-drop, drop-at, drop-append-le, take-append-le, length-take-le}
+use lib.Seq.{getD-append-add, take-suc, take-add, getD-take, getD-drop, getD-at, sets, sets-eq, length-sets, paste, paste-zero, paste-suc, take-length, take-at, drop-append-add, drop-drop, drop-at, drop-append-le, take-append-le, length-take-le, take-all}
 use Rattle.be.specs.Be.{be, digits, lowFirst, swapped, Bytes, put}
 
 -- ---- a number and its bytes
@@ -318,21 +318,25 @@ unfolding put
 put-over l x y a h b = ap₂ (λ (p q : List ℕ). p ++ y ++ q) (take-before l x a a (omega arith) (omega arith)) (cut-after l x a (a + length y) (omega arith) (omega arith))
 
 -- i elements of s are put; k more from j on, some of which may be among them, make j + k
-pub put-piece : (d : List ℕ) (at : ℕ) (s l : List ℕ) (i j k : ℕ) → j ≤ i → i ≤ j + k → j + k ≤ length s → at + length s ≤ length d → l ≡ put d at (take i s) → put l (at + j) (take k (drop j s)) ≡ put d at (take (j + k) s)
-put-piece d at s l i j k hj hi hs hd e =
+pub put-piece : (d : List ℕ) (at : ℕ) (s l : List ℕ) {m : List ℕ} (i j k : ℕ) → j ≤ i → i ≤ j + k → j + k ≤ length s → at + length s ≤ length d → l ≡ put d at (take i s) → m ≡ put l (at + j) (take k (drop j s)) → m ≡ put d at (take (j + k) s)
+put-piece d at s l i j k hj hi hs hd e f =
     let x = take (i - j) (drop j s) in
     let y = take k (drop j s) in
     let front : length (take j s) ≡ j = length-take-le j s (omega arith) in
     let few : length x ≡ i - j = length-take-le (i - j) (drop j s) (simp length-drop (omega arith)) in
     let all : length y ≡ k = length-take-le k (drop j s) (simp length-drop (omega arith)) in
     let start : at + length (take j s) ≡ at + j = rw front refl in
-    let m = put d at (take j s) in
-    let size : length m ≡ length d = length-put d at (take j s) (omega arith) in
+    let size : length (put d at (take j s)) ≡ length d = length-put d at (take j s) (omega arith) in
     let split : take i s ≡ take j s ++ x = ap (λ (n : ℕ). take n s) (let z : i ≡ j + (i - j) = omega arith in z) ∙ take-add j (i - j) s in
-    ap (λ (z : List ℕ). put z (at + j) y) (e ∙ ap (put d at) split ∙ sym (put-put d (take j s) x at (at + j) (omega arith) start))
-    ∙ put-over m x y (at + j) (omega arith) (omega arith)
+    f
+    ∙ ap (λ (z : List ℕ). put z (at + j) y) (e ∙ ap (put d at) split ∙ sym (put-put d (take j s) x at (at + j) (omega arith) start))
+    ∙ put-over (put d at (take j s)) x y (at + j) (omega arith) (omega arith)
     ∙ put-put d (take j s) y at (at + j) (omega arith) start
     ∙ ap (put d at) (sym (take-add j k s))
+
+-- the last piece
+pub put-last : (d : List ℕ) (at : ℕ) (s l : List ℕ) {m : List ℕ} (i j k : ℕ) → j ≤ i → i ≤ j + k → j + k ≡ length s → at + length s ≤ length d → l ≡ put d at (take i s) → m ≡ put l (at + j) (take k (drop j s)) → m ≡ put d at s
+put-last d at s l i j k hj hi hs hd e f = put-piece d at s l i j k hj hi (omega arith) hd e f ∙ ap (put d at) (take-all (j + k) s (omega arith))
 
 -- ---- a loop that writes s from `at` on
 

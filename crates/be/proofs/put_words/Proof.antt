@@ -1,13 +1,12 @@
 -- `be::put_words` meets its contract. The loop's invariant: s is as it was but for the first i of src, put. The measure is what is left of src.
 use Prim.Native.Nat.{_+_, _≤_, _-_}
-use mathlib.Core.Path.{_≡_, refl, sym, ap, _∙_}
+use mathlib.Core.Path.{_≡_, refl, sym}
 use native.Mathlib.Omega.{arith}
 use native.Mathlib.Nat.{le-refl}
 use borrow.Author.Needs.{needs}
 use lib.ListN.{length, take}
-use lib.Seq.{take-all}
 use Rattle.be.specs.Be.{put}
-use Rattle.be.proofs.Laws.{put-nil, put-piece}
+use Rattle.be.proofs.Laws.{put-nil, put-piece, put-last}
 use Rattle.be.proofs.put_words.Statement.{statement}
 use Rattle.be.proofs.put_words.Tie as tie
 
@@ -40,7 +39,7 @@ loop-again c =
     let s = l .before .before .before .args in
     let i = l .loop .i in
     let room : i + 8 ≤ length (s .src .now) = omega arith in
-    (room, c .before .before .put-word .ensures ∙ put-piece (s .s .now) (s .at) (s .src .now) (l .loop .s) i i 8 (le-refl i) (omega arith) room (l .before .before .before .pre .0) (l .loop .inv .1), search needs)
+    (room, put-piece (s .s .now) (s .at) (s .src .now) (l .loop .s) i i 8 (le-refl i) (omega arith) room (l .before .before .before .pre .0) (l .loop .inv .1) (c .before .before .put-word .ensures), search needs)
 
 put-word-requires-2 : tie.Need-put-word-requires-2 Inv-loop μ-loop
 put-word-requires-2 c κs = (omega arith, omega arith)
@@ -52,10 +51,7 @@ returns : tie.Need-returns Inv-loop μ-loop
 returns c =
     let l = c .before .before .before .before .before in
     let s = l .before .before .before .args in
-    let j = length (s .src .now) - 8 in
-    c .before .before .put-word2 .ensures
-    ∙ put-piece (s .s .now) (s .at) (s .src .now) (l .loop .s) (l .loop .i) j 8 (omega arith) (omega arith) (omega arith) (l .before .before .before .pre .0) (l .loop .inv .1)
-    ∙ ap (put (s .s .now) (s .at)) (take-all (j + 8) (s .src .now) (omega arith))
+    put-last (s .s .now) (s .at) (s .src .now) (l .loop .s) (l .loop .i) (length (s .src .now) - 8) 8 (omega arith) (omega arith) (omega arith) (l .before .before .before .pre .0) (l .loop .inv .1) (c .before .before .put-word2 .ensures)
 
 pub put-words-spec : {M : Type 1} → statement M
 put-words-spec =
