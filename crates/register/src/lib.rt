@@ -122,8 +122,7 @@ pub extern "C" fn register_packet_read(packet: &[u8], fields: &mut [u32]) -> u8
     if fields.len() != FIELDS_SIZE {
         return SMALL_OUTLET;
     }
-    let reading = packet::read(packet);
-    match reading {
+    match packet::read(packet) {
         Reading::Fields(h) => {
             numbers::give_fields(fields, h);
             0

@@ -11,23 +11,23 @@ returns c = read-small _ _ (c .if1 .taken)
 read-requires : tie.Need-read-requires
 read-requires c κs = search needs
 
-enum-known-reading : tie.Need-enum-known-reading
-enum-known-reading c = search needs
+enum-known-h : tie.Need-enum-known-h
+enum-known-h c = search needs
 
 give-fields-requires : tie.Need-give-fields-requires
 give-fields-requires c κs = search needs
 
-enum-known-reading-2 : tie.Need-enum-known-reading-2
-enum-known-reading-2 c = search needs
+enum-known-n : tie.Need-enum-known-n
+enum-known-n c = search needs
 
 same-length : tie.Need-same-length
 same-length c = search needs
 
 returns-2 : tie.Need-returns-2
-returns-2 c = read-leaves _ _ (c .before .before .before .before .before .before .before .before .if1 .left) (sym (c .before .before .before .before .before .before .before .read .ensures) ∙ c .before .before .before .before .before .reading .given .1) (c .before .before .give-fields .ensures)
+returns-2 c = read-leaves _ _ (c .before .before .before .before .before .before .before .before .if1 .left) (sym (c .before .before .before .before .before .before .before .read .ensures) ∙ c .before .before .before .before .before .h .given .1) (c .before .before .give-fields .ensures)
 
 returns-3 : tie.Need-returns-3
-returns-3 c = read-refused _ _ (c .before .before .before .before .if1 .left) (sym (c .before .before .before .read .ensures) ∙ c .before .reading2 .given .1)
+returns-3 c = read-refused _ _ (c .before .before .before .before .if1 .left) (sym (c .before .before .before .read .ensures) ∙ c .before .n .given .1)
 
 pub register-packet-read-spec : {M : Type 1} → statement M
 register-packet-read-spec =
@@ -35,9 +35,9 @@ register-packet-read-spec =
     (tie.spec
     returns
     read-requires
-    enum-known-reading
+    enum-known-h
     give-fields-requires
-    enum-known-reading-2
+    enum-known-n
     same-length
     returns-2
     returns-3)
