@@ -1,5 +1,5 @@
 -- `numbers::give_ids` meets its contract. The loop's invariant: l is as it was but for the first i of ids, given. The measure is what is left of ids.
-use Prim.Native.Nat.{ℕ, _+_, _≤_, _-_}
+use Prim.Native.Nat.{_+_, _≤_, _-_}
 use mathlib.Core.Path.{_≡_, refl, ap, _∙_}
 use native.Mathlib.Omega.{arith}
 use borrow.Author.Needs.{needs}

@@ -1,7 +1,7 @@
 -- `table::rules::row_ok` meets its contract: a free slot, one that has a value, and the other states.
 use Prim.Native.Nat.{ℕ, _+_}
 use mathlib.Core.Bool.{Bool, _&&_, _||_}
-use mathlib.Core.Path.{_≡_, sym, ap, ap₂, _∙_}
+use mathlib.Core.Path.{sym, ap, ap₂, _∙_}
 use native.Mathlib.Omega.{arith}
 use borrow.Author.Needs.{needs}
 use lib.Dec.{eqb, leb}
