@@ -1,14 +1,11 @@
 // The controller's steps on the bench.
-ghost use mathlib.Core.Path.{_≡_};
-ghost use Prim.Native.Nat.{_<_};
-ghost use lib.ListN.{length};
-ghost use Rattle.numbers.specs.Record.{recordSize};
-ghost use Rattle.bench_core.specs.Sizes.{nodesSize};
-use crate::HALTED;
-use crate::UNCLEAR;
+use crate::Record;
 use crate::nodes;
 use crate::nodes::MOST_NODES;
-use crate::nodes::TABLE_SIZE;
+use crate::nodes::Nodes;
+use crate::nodes::Table;
+use parcels::HALTED;
+use parcels::UNCLEAR;
 use script::Order;
 
 // Where the record has the named id, the new id and the next slot of the open change; all are 0 where none is open.
@@ -19,10 +16,8 @@ const FRESH: usize = 15;
 const NEXT: usize = 17;
 
 // An id or a slot of the record; both take 16 bits.
-fn part(rec: &[u32], at: usize) -> u16
-    requires { ⌜ at < length (now rec) ⌝ }
-{
-    (rec[at] % 65536) as u16
+fn short(n: u32) -> u16 {
+    (n % 65536) as u16
 }
 
 // The record's number of a kind of change.
@@ -31,66 +26,49 @@ fn kind(after: bool) -> u8 {
 }
 
 // An open that succeeds makes the new node's table.
-fn open(rec: &mut [u32], nodes: &mut [u8], after: bool, named: u16, fresh: u16) -> u8
-    requires { ⌜ length (now nodes) ≡ nodesSize ⌝ }
-{
+fn open(rec: &mut Record, nodes: &mut Nodes, after: bool, named: u16, fresh: u16) -> u8 {
     if (MOST_NODES < fresh) | !nodes::known(nodes, named) {
         return UNCLEAR;
     }
     let n = register::register_open(rec, kind(after), named, fresh);
     if n == 0 {
         nodes::blank(nodes, fresh);
-        return 0;
     }
     n
 }
 
-fn fence(rec: &mut [u32], nodes: &mut [u8]) -> u8
-    requires { ⌜ (length (now rec) ≡ recordSize) × (length (now nodes) ≡ nodesSize) ⌝ }
-{
-    let named = part(rec, NAMED);
+fn fence(rec: &mut Record, nodes: &mut Nodes) -> u8 {
+    let named = short(rec[NAMED]);
     if nodes::halted(nodes, named) {
         return HALTED;
     }
-    let a = nodes::table_at(named);
-    register::register_fence(rec, &mut nodes[a..a + TABLE_SIZE])
+    register::register_fence(rec, &mut nodes[nodes::place(named)])
 }
 
-// The named node's table is read from a copy: two nodes of one area cannot be lent together.
-fn moved(rec: &mut [u32], nodes: &mut [u8], named: u16, fresh: u16) -> u8
-    requires { ⌜ (length (now rec) ≡ recordSize) × (length (now nodes) ≡ nodesSize) ⌝ }
-{
-    let a = nodes::table_at(named);
-    let mut table = [0u8; 1224];
-    be::put_bytes(&mut table, 0, &nodes[a..a + TABLE_SIZE]);
-    let b = nodes::table_at(fresh);
-    let next = part(rec, NEXT);
-    register::register_copy(rec, next, &table, &mut nodes[b..b + TABLE_SIZE])
+// The named node's table comes by value: two tables of one array cannot be lent together.
+fn moved(rec: &mut Record, nodes: &mut Nodes, table: Table, fresh: u16) -> u8 {
+    let next = short(rec[NEXT]);
+    register::register_copy(rec, next, &table, &mut nodes[nodes::place(fresh)])
 }
 
-fn copy(rec: &mut [u32], nodes: &mut [u8]) -> u8
-    requires { ⌜ (length (now rec) ≡ recordSize) × (length (now nodes) ≡ nodesSize) ⌝ }
-{
-    let named = part(rec, NAMED);
-    let fresh = part(rec, FRESH);
+fn copy(rec: &mut Record, nodes: &mut Nodes) -> u8 {
+    let named = short(rec[NAMED]);
+    let fresh = short(rec[FRESH]);
     if nodes::halted(nodes, named) | nodes::halted(nodes, fresh) {
         return HALTED;
     }
-    moved(rec, nodes, named, fresh)
+    let table = nodes[nodes::place(named)];
+    moved(rec, nodes, table, fresh)
 }
 
-fn remove(rec: &mut [u32], nodes: &[u8], id: u16) -> u8
-    requires { ⌜ length (now nodes) ≡ nodesSize ⌝ }
-{
+fn remove(rec: &mut Record, nodes: &Nodes, id: u16) -> u8 {
     if nodes::halted(nodes, id) {
         return register::register_remove(rec, id);
     }
     UNCLEAR
 }
 
-pub fn rule(rec: &mut [u32], nodes: &mut [u8], order: Order) -> u8
-    requires { ⌜ (length (now rec) ≡ recordSize) × (length (now nodes) ≡ nodesSize) ⌝ }
-{
+pub fn rule(rec: &mut Record, nodes: &mut Nodes, order: Order) -> u8 {
     match order {
         Order::Open(after, named, fresh) => open(rec, nodes, after, named, fresh),
         Order::Fence => fence(rec, nodes),

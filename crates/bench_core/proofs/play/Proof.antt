@@ -1,60 +1,41 @@
--- The areas keep their lengths.
-use mathlib.Core.Path.{_≡_}
-use lib.ListN.{length}
+-- The numbers of the lines come to an end.
+use Prim.Native.Nat.{ℕ, _-_, _≤_}
 use borrow.Author.Needs.{needs}
 use Rattle.bench_core.proofs.play.Statement.{statement}
 use Rattle.bench_core.proofs.play.Tie as tie
 
+abbrev last : ℕ
+last = 18446744073709551615
+
 abbrev Inv-loop : tie.InvT-loop
-Inv-loop rec₀ nodes₀ parcels₀ input₀ p₀ left₀ rec nodes parcels input p left = (length rec ≡ length rec₀) × (length nodes ≡ length nodes₀) × (length parcels ≡ length parcels₀) × (length input ≡ length input₀)
+Inv-loop rec₀ nodes₀ area₀ input₀ rest₀ number₀ rec nodes area input rest number = number ≤ last
 
 abbrev μ-loop : tie.MeasureT-loop
-μ-loop rec₀ nodes₀ parcels₀ input₀ p₀ left₀ rec nodes parcels input p left = left
-
-start-requires : tie.Need-start-requires Inv-loop μ-loop
-start-requires c κs = search needs
+μ-loop rec₀ nodes₀ area₀ input₀ rest₀ number₀ rec nodes area input rest number = last - number
 
 loop-holds : tie.Need-loop-holds Inv-loop μ-loop
 loop-holds c = search needs
 
-sub-left : tie.Need-sub-left Inv-loop μ-loop
-sub-left c = search needs
+add-number : tie.Need-add-number Inv-loop μ-loop
+add-number c = search needs
 
-turn-requires : tie.Need-turn-requires Inv-loop μ-loop
-turn-requires c κs = search needs
-
-same-length : tie.Need-same-length Inv-loop μ-loop
-same-length c = search needs
-
-same-length-2 : tie.Need-same-length-2 Inv-loop μ-loop
-same-length-2 c = search needs
-
-same-length-3 : tie.Need-same-length-3 Inv-loop μ-loop
-same-length-3 c = search needs
-
-same-length-4 : tie.Need-same-length-4 Inv-loop μ-loop
-same-length-4 c = search needs
+next-requires : tie.Need-next-requires Inv-loop μ-loop
+next-requires c κs = search needs
 
 returns : tie.Need-returns Inv-loop μ-loop
 returns c = search needs
+
+front-requires : tie.Need-front-requires Inv-loop μ-loop
+front-requires c κs = search needs
+
+answer-requires : tie.Need-answer-requires Inv-loop μ-loop
+answer-requires c κs = search needs
 
 loop-less : tie.Need-loop-less Inv-loop μ-loop
 loop-less c = search needs
 
 loop-again : tie.Need-loop-again Inv-loop μ-loop
 loop-again c = search needs
-
-same-length-5 : tie.Need-same-length-5 Inv-loop μ-loop
-same-length-5 c = search needs
-
-same-length-6 : tie.Need-same-length-6 Inv-loop μ-loop
-same-length-6 c = search needs
-
-same-length-7 : tie.Need-same-length-7 Inv-loop μ-loop
-same-length-7 c = search needs
-
-same-length-8 : tie.Need-same-length-8 Inv-loop μ-loop
-same-length-8 c = search needs
 
 returns-2 : tie.Need-returns-2 Inv-loop μ-loop
 returns-2 c = search needs
@@ -65,19 +46,12 @@ play-spec =
     (tie.spec
     Inv-loop
     μ-loop
-    start-requires
     loop-holds
-    sub-left
-    turn-requires
-    same-length
-    same-length-2
-    same-length-3
-    same-length-4
+    add-number
+    next-requires
     returns
+    front-requires
+    answer-requires
     loop-less
     loop-again
-    same-length-5
-    same-length-6
-    same-length-7
-    same-length-8
     returns-2)

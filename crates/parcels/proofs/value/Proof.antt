@@ -3,9 +3,9 @@ use mathlib.Core.Path.{ap}
 use lib.ListN.{length}
 use borrow.Author.Needs.{needs}
 use native.Mathlib.Omega.{arith}
-use Rattle.bench_core.proofs.Laws.{value-fits}
-use Rattle.bench_core.proofs.post.value.Statement.{statement}
-use Rattle.bench_core.proofs.post.value.Tie as tie
+use Rattle.parcels.proofs.Laws.{value-fits}
+use Rattle.parcels.proofs.value.Statement.{statement}
+use Rattle.parcels.proofs.value.Tie as tie
 
 value-of-requires : tie.Need-value-of-requires
 value-of-requires c κs = search needs

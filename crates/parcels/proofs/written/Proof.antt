@@ -5,8 +5,8 @@ use borrow.Author.Needs.{needs}
 use native.Mathlib.Omega.{arith}
 use Rattle.script.specs.Words.{word}
 use Rattle.script.proofs.Laws.{text-fits}
-use Rattle.bench_core.proofs.post.written.Statement.{statement}
-use Rattle.bench_core.proofs.post.written.Tie as tie
+use Rattle.parcels.proofs.written.Statement.{statement}
+use Rattle.parcels.proofs.written.Tie as tie
 
 value-requires : tie.Need-value-requires
 value-requires c κs = search needs
