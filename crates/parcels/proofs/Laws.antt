@@ -1,10 +1,128 @@
--- How long the value part of an area is.
-use Prim.Native.Nat.{ℕ, _-_, _≤_}
-use mathlib.Core.List.{List}
+-- The definitions of specs/Parcels by what the code tests, and how long the parts of an area are.
+use Prim.Native.Nat.{ℕ, _+_, _-_, _*_, _≤_, _<_}
+use mathlib.Core.Path.{_≡_, sym, ap, ap₂, _∙_}
+use mathlib.Core.List.{List, [], _++_}
+use mathlib.Core.Bool.{true, false}
+use mathlib.Core.Logic.{_⊎_, inl, inr}
+use native.Mathlib.Nat.{add-sub-cancel-left}
 use native.Mathlib.Omega.{arith}
-use lib.ListN.{length, length-take, length-drop}
-use Rattle.wire.specs.Packet.{frontSize, valueOf}
+use borrow.Author.Tests.{lt-ltb, le-ltb, ltb-true, eq-eqb, ne-eqb}
+use lib.ListN.{length, getD, take, drop, length-take, length-drop, take-append-drop}
+use lib.Seq.{take-add, take-all, take-append-seam, length-take-le}
+use lib.Dec.{ltb}
+use Rattle.be.specs.Be.{be}
+use Rattle.wire.specs.Packet.{frontSize, lengthAt, valueOf}
+use Rattle.wire.proofs.Numbers.{Reflects, pick-true, pick-false, pick-case, reflects-yes, reflects-no, reflects-cases, reflect-and, reflect-ltb, reflect-leb}
+use Rattle.parcels.specs.Sizes.{mostParcels, toSize, parcelSize, countAt, areaSize, client}
+use Rattle.parcels.specs.Parcels.{bounded, countOf, isThere, partIn, partOf, toOf, destinationOf, packetIn, packetAt}
+
+-- ---- how many parcels there are
+
+pub bounded-under : (n : ℕ) → n < mostParcels → n ≡ bounded n
+unfolding bounded
+bounded-under n h = sym (pick-true _ _ _ (lt-ltb _ _ h))
+
+pub bounded-over : (n : ℕ) → mostParcels ≤ n → mostParcels ≡ bounded n
+unfolding bounded
+bounded-over n h = sym (pick-false _ _ _ (le-ltb _ _ h))
+
+pub count-fits : (a : List ℕ) → countOf a ≤ mostParcels
+unfolding countOf bounded
+count-fits a =
+    let n = getD a countAt 0 in
+    pick-case (λ (k : ℕ). k ≤ mostParcels) (ltb n mostParcels) n mostParcels (λ e. let h : n < mostParcels = ltb-true _ _ e in omega arith) (λ e. omega arith)
+
+-- ---- the part of a parcel
+
+reflect-there : (n p : ℕ) → Reflects (isThere n p) ((0 < p) × (p ≤ n))
+reflect-there n p = reflect-and (reflect-ltb 0 p) (reflect-leb p n)
+
+pub part-none : (a : List ℕ) (n p : ℕ) → (0 < p → p ≤ n → ⊥) → [] ≡ partIn a n p
+unfolding partIn
+part-none a n p out = sym (pick-false _ _ _ (reflects-no (reflect-there n p) (λ h. out (h .0) (h .1))))
+
+-- its end is parcelSize times its number
+pub part-cut : (a : List ℕ) (n p : ℕ) → 0 < p → p ≤ n
+    → take (parcelSize * p - (parcelSize * p - parcelSize)) (drop (parcelSize * p - parcelSize) a) ≡ partIn a n p
+unfolding partIn
+part-cut a n p h k =
+    let size : parcelSize * p - (parcelSize * p - parcelSize) ≡ parcelSize = omega arith in
+    let at : parcelSize * p - parcelSize ≡ parcelSize * (p - 1) = omega arith in
+    ap₂ (λ (m i : ℕ). take m (drop i a)) size at
+    ∙ sym (pick-true _ _ _ (reflects-yes (reflect-there n p) (h, k)))
+
+pub part-of : (a s : List ℕ) (n p : ℕ) → n ≡ countOf a → s ≡ partIn a n p → s ≡ partOf a p
+unfolding partOf
+part-of a s n p e f = f ∙ ap (λ (m : ℕ). partIn a m p) e
+
+-- it is whole, or nothing
+part-view : (a : List ℕ) (p : ℕ) → length a ≡ areaSize
+    → ((isThere (countOf a) p ≡ true) × (length (partOf a p) ≡ parcelSize)) ⊎ ((isThere (countOf a) p ≡ false) × (partOf a p ≡ []))
+unfolding partOf partIn
+part-view a p e = go (reflects-cases (reflect-there (countOf a) p))
+  where
+    go : ((0 < p) × (p ≤ countOf a)) ⊎ ((0 < p) × (p ≤ countOf a) → ⊥)
+        → ((isThere (countOf a) p ≡ true) × (length (partOf a p) ≡ parcelSize)) ⊎ ((isThere (countOf a) p ≡ false) × (partOf a p ≡ []))
+    go (inl h) =
+        let t = reflects-yes (reflect-there (countOf a) p) h in
+        let f = count-fits a in
+        let l : parcelSize ≤ length (drop (parcelSize * (p - 1)) a) = simp length-drop (omega arith) in
+        inl (t, ap length (pick-true _ _ _ t) ∙ length-take-le parcelSize (drop (parcelSize * (p - 1)) a) l)
+    go (inr n) = let t = reflects-no (reflect-there (countOf a) p) n in inr (t, pick-false _ _ _ t)
+
+-- ---- where a parcel goes
+
+pub to-none : (a s : List ℕ) (p : ℕ) → length a ≡ areaSize → s ≡ partOf a p → length s < toSize → client ≡ toOf a p
+unfolding toOf
+to-none a s p e f h = go (part-view a p e)
+  where
+    go : ((isThere (countOf a) p ≡ true) × (length (partOf a p) ≡ parcelSize)) ⊎ ((isThere (countOf a) p ≡ false) × (partOf a p ≡ [])) → client ≡ toOf a p
+    go (inl v) = absurd (omega (arith, h, v .1, ap length f))
+    go (inr v) = sym (pick-false _ _ _ (v .0))
+
+pub to-there : (a s : List ℕ) (p : ℕ) → length a ≡ areaSize → s ≡ partOf a p → toSize ≤ length s → be toSize s 0 ≡ toOf a p
+unfolding toOf
+to-there a s p e f h = go (part-view a p e)
+  where
+    go : ((isThere (countOf a) p ≡ true) × (length (partOf a p) ≡ parcelSize)) ⊎ ((isThere (countOf a) p ≡ false) × (partOf a p ≡ [])) → be toSize s 0 ≡ toOf a p
+    go (inl v) = ap (λ (l : List ℕ). be toSize l 0) f ∙ sym (pick-true _ _ _ (v .0))
+    go (inr v) = absurd (omega (arith, h, ap length f, ap length (v .1)))
+
+pub no-room : (a : List ℕ) (n p : ℕ) → n ≡ countOf a → n ≡ mostParcels → client ≡ destinationOf a p
+unfolding destinationOf
+no-room a n p e f = sym (pick-true _ _ _ (eq-eqb _ _ (sym e ∙ f)))
+
+pub room : (a : List ℕ) (n p : ℕ) → n ≡ countOf a → (n ≡ mostParcels → ⊥) → toOf a p ≡ destinationOf a p
+unfolding destinationOf
+room a n p e other = sym (pick-false _ _ _ (ne-eqb _ _ (λ f. other (e ∙ f))))
+
+-- ---- its packet
 
 pub value-fits : (s : List ℕ) → length (valueOf s) ≤ length s - frontSize
 unfolding valueOf
 value-fits s = simp (length-take, length-drop) (omega arith)
+
+-- as many elements as a front has are that front
+taken : (n : ℕ) (l : List ℕ) → take (length (take n l)) l ≡ take n l
+taken n l = ap (take (length (take n l))) (sym (take-append-drop n l)) ∙ take-append-seam (take n l) (drop n l)
+
+packet-cut : (o : List ℕ) → take (frontSize + length (valueOf o)) o ≡ packetIn o
+unfolding packetIn valueOf
+packet-cut o = take-add frontSize (length (valueOf o)) o ∙ ap (λ (l : List ℕ). take frontSize o ++ l) (taken (getD o lengthAt 0) (drop frontSize o))
+
+pub packet-none : (a s : List ℕ) (p : ℕ) → length a ≡ areaSize → s ≡ partOf a p → length s < parcelSize → s ≡ packetAt a p
+unfolding packetAt packetIn valueOf
+packet-none a s p e f h = go (part-view a p e)
+  where
+    go : ((isThere (countOf a) p ≡ true) × (length (partOf a p) ≡ parcelSize)) ⊎ ((isThere (countOf a) p ≡ false) × (partOf a p ≡ [])) → s ≡ packetAt a p
+    go (inl v) = absurd (omega (arith, h, v .1, ap length f))
+    go (inr v) = f ∙ v .1 ∙ ap (λ (l : List ℕ). packetIn (drop toSize l)) (sym (v .1))
+
+pub packet-there : (a s : List ℕ) (p r : ℕ) → s ≡ partOf a p → r ≡ frontSize + length (valueOf (take (length s - toSize) (drop toSize s)))
+    → take (toSize + r - toSize) (drop toSize s) ≡ packetAt a p
+unfolding packetAt
+packet-there a s p r f e =
+    let w : take (length s - toSize) (drop toSize s) ≡ drop toSize s = take-all (length s - toSize) (drop toSize s) (omega (arith, length-drop toSize s)) in
+    ap (λ (n : ℕ). take n (drop toSize s)) (add-sub-cancel-left toSize r ∙ e ∙ ap (λ (l : List ℕ). frontSize + length (valueOf l)) w)
+    ∙ packet-cut (drop toSize s)
+    ∙ ap (λ (l : List ℕ). packetIn (drop toSize l)) f

@@ -1,4 +1,4 @@
--- How many parcels there can be, and how large their area is.
+-- How many parcels there can be, how large their area is, and who a parcel goes to that goes to no node.
 use Prim.Native.Nat.{ℕ, _+_, _*_}
 use Rattle.wire.specs.Packet.{outletSize}
 
@@ -6,9 +6,18 @@ abbrev pub mostParcels : ℕ
 mostParcels = 64
 
 -- where a parcel goes, and its packet
+abbrev pub toSize : ℕ
+toSize = 2
+
 abbrev pub parcelSize : ℕ
-parcelSize = 2 + outletSize
+parcelSize = toSize + outletSize
 
 -- the parcels, and how many there are
+abbrev pub countAt : ℕ
+countAt = parcelSize * mostParcels
+
 abbrev pub areaSize : ℕ
-areaSize = parcelSize * mostParcels + 1
+areaSize = countAt + 1
+
+abbrev pub client : ℕ
+client = 0

@@ -2,9 +2,10 @@
 ghost use mathlib.Core.Path.{_≡_};
 ghost use Prim.Native.Nat.{_+_, _≤_, _<_};
 ghost use lib.ListN.{length};
-ghost use Rattle.wire.specs.Packet.{frontSize, outletSize};
+ghost use Rattle.wire.specs.Packet.{frontSize, outletSize, valueOf};
 ghost use Rattle.script.specs.Sizes.{mostText};
 ghost use Rattle.parcels.specs.Sizes.{mostParcels, areaSize};
+ghost use Rattle.parcels.specs.Parcels.{bounded, countOf, partIn, toOf, packetIn, packetAt, destinationOf};
 use lines::output::CLIENT;
 use lines::output::RELAY;
 use wire::FRONT_SIZE;
@@ -39,7 +40,7 @@ pub type Outlet = [u8; OUTLET_SIZE];
 
 // A count, but no more than there can be.
 fn bounded(n: u8) -> usize
-    ensures { λ r. ⌜ r ≤ mostParcels ⌝ }
+    ensures { λ r. ⌜ r ≡ bounded n ⌝ }
 {
     let n = n as usize;
     if n < MOST_PARCELS { n } else { MOST_PARCELS }
@@ -47,7 +48,7 @@ fn bounded(n: u8) -> usize
 
 // How many parcels there are.
 pub fn count(area: &Area) -> usize
-    ensures { λ r. ⌜ r ≤ mostParcels ⌝ }
+    ensures { λ r. ⌜ r ≡ countOf (now (area .entry)) ⌝ }
 {
     bounded(area[COUNT_AT])
 }
@@ -55,6 +56,7 @@ pub fn count(area: &Area) -> usize
 // The part of a parcel; nothing where none of the n has that number.
 fn part(area: &[u8], n: usize, p: usize) -> &[u8]
     requires { ⌜ (length (now area) ≡ areaSize) × (n ≤ mostParcels) ⌝ }
+    ensures { λ r. ⌜ now r ≡ partIn (now (area .entry)) n p ⌝ }
 {
     if p == 0 {
         return &area[..0];
@@ -67,7 +69,9 @@ fn part(area: &[u8], n: usize, p: usize) -> &[u8]
 }
 
 // Where a parcel goes; where there is no such parcel, to a client.
-fn to(area: &Area, p: usize) -> u16 {
+fn to(area: &Area, p: usize) -> u16
+    ensures { λ r. ⌜ r ≡ toOf (now (area .entry)) p ⌝ }
+{
     let s = part(area, count(area), p);
     if s.len() < TO_SIZE {
         return CLIENT;
@@ -78,7 +82,7 @@ fn to(area: &Area, p: usize) -> u16 {
 // The value of the packet that an area begins with.
 fn value(area: &[u8]) -> &[u8]
     requires { ⌜ outletSize ≤ length (now area) ⌝ }
-    ensures { λ r. ⌜ frontSize + length (now r) ≤ length (now (area .entry)) ⌝ }
+    ensures { λ r. ⌜ (now r ≡ valueOf (now (area .entry))) × (frontSize + length (now r) ≤ length (now (area .entry))) ⌝ }
 {
     packet::value_of(area)
 }
@@ -86,13 +90,15 @@ fn value(area: &[u8]) -> &[u8]
 // The length of that packet.
 fn size(area: &[u8]) -> usize
     requires { ⌜ outletSize ≤ length (now area) ⌝ }
-    ensures { λ r. ⌜ r ≤ length (now (area .entry)) ⌝ }
+    ensures { λ r. ⌜ (r ≡ frontSize + length (valueOf (now (area .entry)))) × (r ≤ length (now (area .entry))) ⌝ }
 {
     FRONT_SIZE + value(area).len()
 }
 
 // The packet of a parcel; nothing where there is no such parcel.
-pub fn packet_of(area: &Area, p: usize) -> &[u8] {
+pub fn packet_of(area: &Area, p: usize) -> &[u8]
+    ensures { λ r. ⌜ now r ≡ packetAt (now (area .entry)) p ⌝ }
+{
     let s = part(area, count(area), p);
     if s.len() < PARCEL_SIZE {
         return s;
@@ -102,7 +108,9 @@ pub fn packet_of(area: &Area, p: usize) -> &[u8] {
 }
 
 // Where a parcel is delivered to; to a client, so nowhere, where there is no such parcel or no room for another.
-pub fn destination(area: &Area, p: usize) -> u16 {
+pub fn destination(area: &Area, p: usize) -> u16
+    ensures { λ r. ⌜ r ≡ destinationOf (now (area .entry)) p ⌝ }
+{
     if count(area) == MOST_PARCELS {
         return CLIENT;
     }

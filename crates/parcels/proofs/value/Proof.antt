@@ -11,7 +11,8 @@ value-of-requires : tie.Need-value-of-requires
 value-of-requires c κs = search needs
 
 returns : tie.Need-returns
-returns c = omega (arith, ap length (c .value-of .ensures), value-fits (c .before .before .args .area .now))
+returns c =
+    (c .value-of .ensures, omega (arith, ap length (c .value-of .ensures), value-fits (c .before .before .args .area .now)))
 
 pub value-spec : {M : Type 1} → statement M
 value-spec = tie.close (tie.spec value-of-requires returns)
