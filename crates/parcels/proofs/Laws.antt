@@ -1,20 +1,26 @@
 -- The definitions of specs/Parcels by what the code tests, and how long the parts of an area are.
 use Prim.Native.Nat.{ℕ, _+_, _-_, _*_, _≤_, _<_}
-use mathlib.Core.Path.{_≡_, sym, ap, ap₂, _∙_}
-use mathlib.Core.List.{List, [], _++_}
+use mathlib.Core.Path.{_≡_, refl, sym, ap, ap₂, subst, _∙_}
+use mathlib.Core.List.{List, [], _∷_, _++_}
 use mathlib.Core.Bool.{true, false}
 use mathlib.Core.Logic.{_⊎_, inl, inr}
-use native.Mathlib.Nat.{add-sub-cancel-left}
+use native.Mathlib.Nat.{add-sub-cancel-left, zero-add}
 use native.Mathlib.Omega.{arith}
 use borrow.Author.Tests.{lt-ltb, le-ltb, ltb-true, eq-eqb, ne-eqb}
-use lib.ListN.{length, getD, take, drop, length-take, length-drop, take-append-drop}
-use lib.Seq.{take-add, take-all, take-append-seam, length-take-le}
+use lib.ListN.{length, getD, take, drop, replicate, length-take, length-drop, take-append-drop, length-replicate, replicate-append-replicate}
+use lib.Seq.{take-add, take-all, take-append-seam, length-take-le, drop-at}
 use lib.Dec.{ltb}
-use Rattle.be.specs.Be.{be}
-use Rattle.wire.specs.Packet.{frontSize, lengthAt, valueOf}
+use Rattle.be.specs.Be.{be, digits, put}
+use Rattle.be.proofs.Laws.{put-put}
+use Rattle.wire.specs.Numbers.{left}
+use Rattle.wire.specs.Packet.{Packet, packet, frontSize, keySize, outletSize, lengthAt, valueOf, writeCall, sentIn, WriteGives}
+use Rattle.wire.specs.declared.Head.{Head}
+use Rattle.wire.specs.declared.Writing.{Writing}
 use Rattle.wire.proofs.Numbers.{Reflects, pick-true, pick-false, pick-case, reflects-yes, reflects-no, reflects-cases, reflect-and, reflect-ltb, reflect-leb}
-use Rattle.parcels.specs.Sizes.{mostParcels, toSize, parcelSize, countAt, areaSize, client}
-use Rattle.parcels.specs.Parcels.{bounded, countOf, isThere, partIn, partOf, toOf, destinationOf, packetIn, packetAt}
+use Rattle.script.specs.Words as words
+use Rattle.parcels.specs.Sizes.{mostParcels, toSize, parcelSize, countAt, areaSize, client, relay, unclear}
+use Rattle.parcels.specs.Parcels.{bounded, countOf, isThere, partIn, partOf, toOf, destinationOf, packetIn, packetAt, placed, keepNumber, kept, KeepGives}
+use Rattle.parcels.specs.Query.{paddedKey, queryOf, queryFor, outletOf, SendGives}
 
 -- ---- how many parcels there are
 
@@ -126,3 +132,54 @@ packet-there a s p r f e =
     ap (λ (n : ℕ). take n (drop toSize s)) (add-sub-cancel-left toSize r ∙ e ∙ ap (λ (l : List ℕ). frontSize + length (valueOf l)) w)
     ∙ packet-cut (drop toSize s)
     ∙ ap (λ (l : List ℕ). packetIn (drop toSize l)) f
+
+-- ---- a parcel more
+
+-- destination, outlet and count, put one after the other
+pub puts-placed : (a x y z o : List ℕ) (n to : ℕ) → parcelSize * n ≤ length a → x ≡ put a (parcelSize * n) (digits toSize to) → y ≡ put x (parcelSize * n + toSize) o → z ≡ put y countAt ((n + 1) ∷ [])
+    → z ≡ placed a n to o
+unfolding placed
+puts-placed a x y z o n to h e f g =
+    g
+    ∙ ap (λ (l : List ℕ). put l countAt ((n + 1) ∷ []))
+    (f ∙ ap (λ (l : List ℕ). put l (parcelSize * n + toSize) o) e ∙ put-put a (digits toSize to) o (parcelSize * n) (parcelSize * n + toSize) h refl)
+
+pub keep-full : (a : List ℕ) (n to : ℕ) (o : List ℕ) → n ≡ countOf a → n ≡ mostParcels → KeepGives a to o unclear a
+unfolding keepNumber kept
+keep-full a n to o e f =
+    let t = eq-eqb (countOf a) mostParcels (sym e ∙ f) in
+    record { answer = sym (pick-true _ _ _ t); after = sym (pick-true _ _ _ t) }
+
+pub keep-room : (a a′ : List ℕ) (n to : ℕ) (o : List ℕ) → n ≡ countOf a → (n ≡ mostParcels → ⊥) → a′ ≡ placed a n to o → KeepGives a to o 0 a′
+unfolding keepNumber kept
+keep-room a a′ n to o e other f =
+    let t = ne-eqb (countOf a) mostParcels (λ g. other (e ∙ g)) in
+    record { answer = sym (pick-false _ _ _ t); after = f ∙ ap (λ (m : ℕ). placed a m to o) e ∙ sym (pick-false _ _ _ t) }
+
+-- ---- the query of a line
+
+-- what is left of zeros
+zeros-left : (j m : ℕ) → j ≤ m → drop j (replicate {A = ℕ} m 0) ≡ replicate (m - j) 0
+zeros-left j m h =
+    let n : j + (m - j) ≡ m = omega arith in
+    let parts : replicate {A = ℕ} m 0 ≡ replicate j 0 ++ replicate (m - j) 0 = sym (replicate-append-replicate j (m - j) 0 ∙ ap (λ (k : ℕ). replicate {A = ℕ} k 0) n) in
+    ap (drop j) parts ∙ drop-at (replicate j 0) (replicate (m - j) 0) j (length-replicate j 0)
+
+pub key-padded : (l k r : List ℕ) → k ≡ words.keyOf l → length k ≤ keySize → r ≡ put (replicate keySize 0) 0 k → r ≡ paddedKey l
+unfolding paddedKey put
+key-padded l k r e h f =
+    f
+    ∙ ap (λ (t : List ℕ). k ++ t) (ap (λ (n : ℕ). drop n (replicate {A = ℕ} keySize 0)) (zero-add (length k)) ∙ zeros-left (length k) keySize h)
+    ∙ ap (λ (t : List ℕ). t ++ replicate (keySize - length t) 0) e
+
+-- what is written of it is what its line says
+pub sends : (a l k v o a′ : List ℕ) (op n r : ℕ) (h : Head) (w : Writing) → k ≡ paddedKey l → v ≡ words.valueOf l → n ≡ countOf a → h ≡ queryOf op (n + 1) (length v)
+    → WriteGives (replicate outletSize 0) (packet h k v) w o
+    → KeepGives a relay o r a′
+    → SendGives a op l r a′
+unfolding outletOf queryFor
+sends a l k v o a′ op n r h w ek ev en eh g kept =
+    let z = replicate {A = ℕ} outletSize 0 in
+    let head : h ≡ queryOf op (countOf a + 1) (length (words.valueOf l)) = eh ∙ ap₂ (λ (m : ℕ) (t : List ℕ). queryOf op (m + 1) (length t)) en ev in
+    let sent : packet h k v ≡ queryFor op (countOf a + 1) l = λ i. packet (head i) (ek i) (ev i) in
+    subst (λ (x : List ℕ). KeepGives a relay x r a′) (g .outlet ∙ ap (λ (p : Packet). left z (sentIn z) (writeCall z p)) sent) kept

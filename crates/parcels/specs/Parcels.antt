@@ -1,13 +1,14 @@
--- Document 01, "Bench": 64 parcels, numbered from 1; where each goes, and its packet.
-use Prim.Native.Nat.{ℕ, _-_, _*_}
-use mathlib.Core.List.{List, [], _++_}
+-- Document 01, "Bench": 64 parcels, numbered from 1, that never vanish; where each goes, its packet, and one more.
+use Prim.Native.Nat.{ℕ, _+_, _-_, _*_}
+use mathlib.Core.Path.{_≡_}
+use mathlib.Core.List.{List, [], _∷_, _++_}
 use mathlib.Core.Bool.{Bool, _&&_}
 use lib.ListN.{getD, take, drop}
 use lib.Dec.{eqb, ltb, leb}
-use Rattle.be.specs.Be.{be}
+use Rattle.be.specs.Be.{be, digits, put}
 use Rattle.wire.specs.Numbers.{pick}
 use Rattle.wire.specs.Packet.{frontSize, valueOf}
-use Rattle.parcels.specs.Sizes.{mostParcels, toSize, parcelSize, countAt, client}
+use Rattle.parcels.specs.Sizes.{mostParcels, toSize, parcelSize, countAt, client, unclear}
 
 -- ---- the parcels there are
 
@@ -47,3 +48,21 @@ packetIn outlet = take frontSize outlet ++ valueOf outlet
 -- nothing where there is no such parcel
 unfoldable pub packetAt : List ℕ → ℕ → List ℕ
 packetAt area p = packetIn (drop toSize (partOf area p))
+
+-- ---- a parcel more
+
+-- behind n others, which are then one more
+unfoldable pub placed : List ℕ → ℕ → ℕ → List ℕ → List ℕ
+placed area n to outlet = put (put area (parcelSize * n) (digits toSize to ++ outlet)) countAt ((n + 1) ∷ [])
+
+-- the number and the area; all is as before where there is no room
+unfoldable pub keepNumber : List ℕ → ℕ
+keepNumber area = pick (eqb (countOf area) mostParcels) unclear 0
+
+unfoldable pub kept : List ℕ → ℕ → List ℕ → List ℕ
+kept area to outlet = pick (eqb (countOf area) mostParcels) area (placed area (countOf area) to outlet)
+
+-- what keeping promises: its number, and the area afterwards
+pub record KeepGives (area : List ℕ) (to : ℕ) (outlet : List ℕ) (number : ℕ) (area′ : List ℕ) : Type 0 where
+  pub answer : number ≡ keepNumber area
+  pub after : area′ ≡ kept area to outlet

@@ -1,4 +1,4 @@
--- How many parcels there can be, how large their area is, and who a parcel goes to that goes to no node.
+-- How many parcels there can be, how large their area is, who a parcel goes to that goes to no node, and the bench's number for a line not understood.
 use Prim.Native.Nat.{ℕ, _+_, _*_}
 use Rattle.wire.specs.Packet.{outletSize}
 
@@ -21,3 +21,9 @@ areaSize = countAt + 1
 
 abbrev pub client : ℕ
 client = 0
+
+abbrev pub relay : ℕ
+relay = 65535
+
+abbrev pub unclear : ℕ
+unclear = 24

@@ -4,8 +4,10 @@ ghost use Prim.Native.Nat.{_+_, _≤_, _<_};
 ghost use lib.ListN.{length};
 ghost use Rattle.wire.specs.Packet.{frontSize, outletSize, valueOf};
 ghost use Rattle.script.specs.Sizes.{mostText};
+ghost use Rattle.script.specs.Words as words;
 ghost use Rattle.parcels.specs.Sizes.{mostParcels, areaSize};
-ghost use Rattle.parcels.specs.Parcels.{bounded, countOf, partIn, toOf, packetIn, packetAt, destinationOf};
+ghost use Rattle.parcels.specs.Parcels.{bounded, countOf, partIn, toOf, packetAt, destinationOf, placed, KeepGives};
+ghost use Rattle.parcels.specs.Query.{paddedKey, queryOf, SendGives};
 use lines::output::CLIENT;
 use lines::output::RELAY;
 use wire::FRONT_SIZE;
@@ -122,6 +124,7 @@ pub fn destination(area: &Area, p: usize) -> u16
 // The parcel after n others.
 fn put(area: &mut [u8], n: usize, to: u16, outlet: Outlet)
     requires { ⌜ (length (now area) ≡ areaSize) × (n < mostParcels) ⌝ }
+    ensures { λ _. ⌜ now (area .exit) ≡ placed (now (area .entry)) n to outlet ⌝ }
 {
     let at = PARCEL_SIZE * n;
     be::put16(area, at, to);
@@ -130,7 +133,9 @@ fn put(area: &mut [u8], n: usize, to: u16, outlet: Outlet)
 }
 
 // The packet in an outlet becomes a parcel, if there is room.
-pub fn keep(area: &mut Area, to: u16, outlet: Outlet) -> u8 {
+pub fn keep(area: &mut Area, to: u16, outlet: Outlet) -> u8
+    ensures { λ r. ⌜ KeepGives (now (area .entry)) to outlet r (now (area .exit)) ⌝ }
+{
     let n = count(area);
     if n == MOST_PARCELS {
         return UNCLEAR;
@@ -140,7 +145,9 @@ pub fn keep(area: &mut Area, to: u16, outlet: Outlet) -> u8 {
 }
 
 // A client's packet for the relay.
-fn query(op: u8, request: u32, length: u8) -> Head {
+fn query(op: u8, request: u32, length: u8) -> Head
+    ensures { λ r. ⌜ r ≡ queryOf op request length ⌝ }
+{
     Head {
         op: op,
         answer: QUERY,
@@ -156,26 +163,30 @@ fn query(op: u8, request: u32, length: u8) -> Head {
 
 // The key and the value of a line that sends; nothing where it has none.
 fn named(line: &[u8]) -> &[u8]
-    ensures { λ r. ⌜ length (now r) ≤ mostText ⌝ }
+    ensures { λ r. ⌜ (now r ≡ words.keyOf (now (line .entry))) × (length (now r) ≤ mostText) ⌝ }
 {
     script::key(line)
 }
 
 fn written(line: &[u8]) -> &[u8]
-    ensures { λ r. ⌜ length (now r) ≤ mostText ⌝ }
+    ensures { λ r. ⌜ (now r ≡ words.valueOf (now (line .entry))) × (length (now r) ≤ mostText) ⌝ }
 {
     script::value(line)
 }
 
 // The key of a line, padded with zeros.
-pub fn key(line: &[u8]) -> [u8; KEY_SIZE] {
+pub fn key(line: &[u8]) -> [u8; KEY_SIZE]
+    ensures { λ r. ⌜ r ≡ paddedKey (now (line .entry)) ⌝ }
+{
     let mut key = [0u8; KEY_SIZE];
     be::put_bytes(&mut key, 0, named(line));
     key
 }
 
 // The query of a line that sends.
-pub fn send(area: &mut Area, op: u8, line: &[u8]) -> u8 {
+pub fn send(area: &mut Area, op: u8, line: &[u8]) -> u8
+    ensures { λ r. ⌜ SendGives (now (area .entry)) op (now (line .entry)) r (now (area .exit)) ⌝ }
+{
     let key = key(line);
     let value = written(line);
     let mut outlet = [0u8; OUTLET_SIZE];

@@ -12,7 +12,7 @@ key-requires : tie.Need-key-requires
 key-requires c κs = search needs
 
 returns : tie.Need-returns
-returns c = omega (arith, ap length (c .key .ensures), text-fits (word 2 (c .before .before .args .line .now)))
+returns c = (c .key .ensures, omega (arith, ap length (c .key .ensures), text-fits (word 2 (c .before .before .args .line .now))))
 
 pub named-spec : {M : Type 1} → statement M
 named-spec = tie.close (tie.spec key-requires returns)

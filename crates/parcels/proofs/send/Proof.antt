@@ -1,6 +1,6 @@
--- The request number fits: there are few parcels.
+-- The request number fits, since there are few parcels; what is written and kept is the query of the line.
 use native.Mathlib.Omega.{arith}
-use Rattle.parcels.proofs.Laws.{count-fits}
+use Rattle.parcels.proofs.Laws.{count-fits, sends}
 use borrow.Author.Needs.{needs}
 use Rattle.parcels.proofs.send.Statement.{statement}
 use Rattle.parcels.proofs.send.Tie as tie
@@ -39,7 +39,14 @@ keep-requires : tie.Need-keep-requires
 keep-requires c κs = search needs
 
 returns : tie.Need-returns
-returns c = search needs
+returns c =
+    let c5 = c .before .before .before in
+    let c4 = c5 .before .before .before in
+    let c3 = c4 .before in
+    let c2 = c3 .before .before in
+    let c1 = c2 .before in
+    let s = c1 .before .before .args in
+    sends (s .area .now) (s .line .now) _ _ _ _ (s .op) _ _ _ _ (c1 .key .ensures) (c2 .written .ensures .0) (c3 .count .ensures) (c4 .query .ensures) (c5 .write .ensures) (c .keep .ensures)
 
 pub send-spec : {M : Type 1} → statement M
 send-spec =

@@ -12,7 +12,7 @@ value-requires : tie.Need-value-requires
 value-requires c κs = search needs
 
 returns : tie.Need-returns
-returns c = omega (arith, ap length (c .value .ensures), text-fits (word 3 (c .before .before .args .line .now)))
+returns c = (c .value .ensures, omega (arith, ap length (c .value .ensures), text-fits (word 3 (c .before .before .args .line .now))))
 
 pub written-spec : {M : Type 1} → statement M
 written-spec = tie.close (tie.spec value-requires returns)
