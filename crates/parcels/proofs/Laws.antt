@@ -6,7 +6,7 @@ use mathlib.Core.Bool.{true, false}
 use mathlib.Core.Logic.{_⊎_, inl, inr}
 use native.Mathlib.Nat.{add-sub-cancel-left, zero-add}
 use native.Mathlib.Omega.{arith}
-use borrow.Author.Tests.{lt-ltb, le-ltb, ltb-true, eq-eqb, ne-eqb}
+use borrow.Author.Tests.{lt-ltb, le-ltb, ltb-true, ltb-false, eq-eqb, ne-eqb}
 use lib.ListN.{length, getD, take, drop, replicate, length-take, length-drop, take-append-drop, length-replicate, replicate-append-replicate}
 use lib.Seq.{take-add, take-all, take-append-seam, length-take-le, drop-at}
 use lib.Dec.{ltb}
@@ -32,6 +32,10 @@ pub bounded-over : (n : ℕ) → mostParcels ≤ n → mostParcels ≡ bounded n
 unfolding bounded
 bounded-over n h = sym (pick-false _ _ _ (le-ltb _ _ h))
 
+pub bounded-fits : (n : ℕ) → n ≤ mostParcels → bounded n ≡ n
+unfolding bounded
+bounded-fits n h = pick-case (λ (k : ℕ). k ≡ n) (ltb n mostParcels) n mostParcels (λ e. refl) (λ e. let g : mostParcels ≤ n = ltb-false _ _ e in omega arith)
+
 pub count-fits : (a : List ℕ) → countOf a ≤ mostParcels
 unfolding countOf bounded
 count-fits a =
@@ -47,15 +51,17 @@ pub part-none : (a : List ℕ) (n p : ℕ) → (0 < p → p ≤ n → ⊥) → [
 unfolding partIn
 part-none a n p out = sym (pick-false _ _ _ (reflects-no (reflect-there n p) (λ h. out (h .0) (h .1))))
 
+pub part-there : (a : List ℕ) (n p : ℕ) → 0 < p → p ≤ n → partIn a n p ≡ take parcelSize (drop (parcelSize * (p - 1)) a)
+unfolding partIn
+part-there a n p h k = pick-true _ _ _ (reflects-yes (reflect-there n p) (h, k))
+
 -- its end is parcelSize times its number
 pub part-cut : (a : List ℕ) (n p : ℕ) → 0 < p → p ≤ n
     → take (parcelSize * p - (parcelSize * p - parcelSize)) (drop (parcelSize * p - parcelSize) a) ≡ partIn a n p
-unfolding partIn
 part-cut a n p h k =
     let size : parcelSize * p - (parcelSize * p - parcelSize) ≡ parcelSize = omega arith in
     let at : parcelSize * p - parcelSize ≡ parcelSize * (p - 1) = omega arith in
-    ap₂ (λ (m i : ℕ). take m (drop i a)) size at
-    ∙ sym (pick-true _ _ _ (reflects-yes (reflect-there n p) (h, k)))
+    ap₂ (λ (m i : ℕ). take m (drop i a)) size at ∙ sym (part-there a n p h k)
 
 pub part-of : (a s : List ℕ) (n p : ℕ) → n ≡ countOf a → s ≡ partIn a n p → s ≡ partOf a p
 unfolding partOf
@@ -77,6 +83,10 @@ part-view a p e = go (reflects-cases (reflect-there (countOf a) p))
     go (inr n) = let t = reflects-no (reflect-there (countOf a) p) n in inr (t, pick-false _ _ _ t)
 
 -- ---- where a parcel goes
+
+pub to-is : (a : List ℕ) (p : ℕ) → 0 < p → p ≤ countOf a → toOf a p ≡ be toSize (partOf a p) 0
+unfolding toOf
+to-is a p h k = pick-true _ _ _ (reflects-yes (reflect-there (countOf a) p) (h, k))
 
 pub to-none : (a s : List ℕ) (p : ℕ) → length a ≡ areaSize → s ≡ partOf a p → length s < toSize → client ≡ toOf a p
 unfolding toOf

@@ -1,6 +1,6 @@
 -- The byte behind the parcels, bounded.
-use Rattle.parcels.specs.Parcels.{countOf}
 use borrow.Author.Needs.{needs}
+use Rattle.parcels.specs.Parcels.{countOf}
 use Rattle.parcels.proofs.count.Statement.{statement}
 use Rattle.parcels.proofs.count.Tie as tie
 

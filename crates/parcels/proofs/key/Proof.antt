@@ -1,6 +1,6 @@
 -- The key is put on zeros.
-use Rattle.parcels.proofs.Laws.{key-padded}
 use borrow.Author.Needs.{needs}
+use Rattle.parcels.proofs.Laws.{key-padded}
 use Rattle.parcels.proofs.key.Statement.{statement}
 use Rattle.parcels.proofs.key.Tie as tie
 

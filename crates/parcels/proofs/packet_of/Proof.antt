@@ -1,7 +1,7 @@
 -- The packet of a part that is whole; nothing of one that is not.
 use native.Mathlib.Omega.{arith}
-use Rattle.parcels.proofs.Laws.{count-fits, part-of, packet-none, packet-there}
 use borrow.Author.Needs.{needs}
+use Rattle.parcels.proofs.Laws.{count-fits, part-of, packet-none, packet-there}
 use Rattle.parcels.proofs.packet_of.Statement.{statement}
 use Rattle.parcels.proofs.packet_of.Tie as tie
 

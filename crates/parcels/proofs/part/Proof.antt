@@ -1,7 +1,7 @@
 -- A parcel's part ends at its number times its size.
 use native.Mathlib.Omega.{arith}
-use Rattle.parcels.proofs.Laws.{part-none, part-cut}
 use borrow.Author.Needs.{needs}
+use Rattle.parcels.proofs.Laws.{part-none, part-cut}
 use Rattle.parcels.proofs.part.Statement.{statement}
 use Rattle.parcels.proofs.part.Tie as tie
 

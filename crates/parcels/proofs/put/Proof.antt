@@ -1,7 +1,7 @@
 -- Destination, outlet and count are put one after the other.
 use native.Mathlib.Omega.{arith}
-use Rattle.parcels.proofs.Laws.{puts-placed}
 use borrow.Author.Needs.{needs}
+use Rattle.parcels.proofs.Laws.{puts-placed}
 use Rattle.parcels.proofs.put.Statement.{statement}
 use Rattle.parcels.proofs.put.Tie as tie
 

@@ -1,6 +1,6 @@
 -- The version is 0.0.
-use Rattle.parcels.specs.Query.{queryOf}
 use borrow.Author.Needs.{needs}
+use Rattle.parcels.specs.Query.{queryOf}
 use Rattle.parcels.proofs.query.Statement.{statement}
 use Rattle.parcels.proofs.query.Tie as tie
 

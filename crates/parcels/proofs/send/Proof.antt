@@ -1,7 +1,7 @@
 -- The request number fits, since there are few parcels; what is written and kept is the query of the line.
 use native.Mathlib.Omega.{arith}
-use Rattle.parcels.proofs.Laws.{count-fits, sends}
 use borrow.Author.Needs.{needs}
+use Rattle.parcels.proofs.Laws.{count-fits, sends}
 use Rattle.parcels.proofs.send.Statement.{statement}
 use Rattle.parcels.proofs.send.Tie as tie
 

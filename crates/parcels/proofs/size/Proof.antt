@@ -2,10 +2,10 @@
 use Prim.Native.Nat.{ℕ, _+_}
 use mathlib.Core.Path.{ap}
 use mathlib.Core.List.{List}
-use lib.ListN.{length}
 use native.Mathlib.Omega.{arith}
-use Rattle.wire.specs.Packet.{frontSize}
+use lib.ListN.{length}
 use borrow.Author.Needs.{needs}
+use Rattle.wire.specs.Packet.{frontSize}
 use Rattle.parcels.proofs.size.Statement.{statement}
 use Rattle.parcels.proofs.size.Tie as tie
 

@@ -1,8 +1,8 @@
 -- Where a parcel goes, by how long its part is.
 use mathlib.Core.Path.{_∙_}
 use native.Mathlib.Omega.{arith}
-use Rattle.parcels.proofs.Laws.{count-fits, part-of, to-none, to-there}
 use borrow.Author.Needs.{needs}
+use Rattle.parcels.proofs.Laws.{count-fits, part-of, to-none, to-there}
 use Rattle.parcels.proofs.to.Statement.{statement}
 use Rattle.parcels.proofs.to.Tie as tie
 

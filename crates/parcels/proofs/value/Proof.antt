@@ -1,8 +1,8 @@
 -- The value is a part of what follows the front.
 use mathlib.Core.Path.{ap}
+use native.Mathlib.Omega.{arith}
 use lib.ListN.{length}
 use borrow.Author.Needs.{needs}
-use native.Mathlib.Omega.{arith}
 use Rattle.parcels.proofs.Laws.{value-fits}
 use Rattle.parcels.proofs.value.Statement.{statement}
 use Rattle.parcels.proofs.value.Tie as tie
