@@ -68,19 +68,21 @@ unfolding partOf
 part-of a s n p e f = f ∙ ap (λ (m : ℕ). partIn a m p) e
 
 -- it is whole, or nothing
-part-view : (a : List ℕ) (p : ℕ) → length a ≡ areaSize
-    → ((isThere (countOf a) p ≡ true) × (length (partOf a p) ≡ parcelSize)) ⊎ ((isThere (countOf a) p ≡ false) × (partOf a p ≡ []))
+data Part (a : List ℕ) (p : ℕ) : Type 0 where
+  there : isThere (countOf a) p ≡ true → length (partOf a p) ≡ parcelSize → Part a p
+  none : isThere (countOf a) p ≡ false → partOf a p ≡ [] → Part a p
+
+part-view : (a : List ℕ) (p : ℕ) → length a ≡ areaSize → Part a p
 unfolding partOf partIn
 part-view a p e = go (reflects-cases (reflect-there (countOf a) p))
   where
-    go : ((0 < p) × (p ≤ countOf a)) ⊎ ((0 < p) × (p ≤ countOf a) → ⊥)
-        → ((isThere (countOf a) p ≡ true) × (length (partOf a p) ≡ parcelSize)) ⊎ ((isThere (countOf a) p ≡ false) × (partOf a p ≡ []))
+    go : ((0 < p) × (p ≤ countOf a)) ⊎ ((0 < p) × (p ≤ countOf a) → ⊥) → Part a p
     go (inl h) =
         let t = reflects-yes (reflect-there (countOf a) p) h in
         let f = count-fits a in
         let l : parcelSize ≤ length (drop (parcelSize * (p - 1)) a) = simp length-drop (omega arith) in
-        inl (t, ap length (pick-true _ _ _ t) ∙ length-take-le parcelSize (drop (parcelSize * (p - 1)) a) l)
-    go (inr n) = let t = reflects-no (reflect-there (countOf a) p) n in inr (t, pick-false _ _ _ t)
+        there t (ap length (pick-true _ _ _ t) ∙ length-take-le parcelSize (drop (parcelSize * (p - 1)) a) l)
+    go (inr n) = let t = reflects-no (reflect-there (countOf a) p) n in none t (pick-false _ _ _ t)
 
 -- ---- where a parcel goes
 
@@ -92,17 +94,17 @@ pub to-none : (a s : List ℕ) (p : ℕ) → length a ≡ areaSize → s ≡ par
 unfolding toOf
 to-none a s p e f h = go (part-view a p e)
   where
-    go : ((isThere (countOf a) p ≡ true) × (length (partOf a p) ≡ parcelSize)) ⊎ ((isThere (countOf a) p ≡ false) × (partOf a p ≡ [])) → client ≡ toOf a p
-    go (inl v) = absurd (omega (arith, h, v .1, ap length f))
-    go (inr v) = sym (pick-false _ _ _ (v .0))
+    go : Part a p → client ≡ toOf a p
+    go (there t l) = absurd (omega (arith, h, l, ap length f))
+    go (none t z) = sym (pick-false _ _ _ t)
 
 pub to-there : (a s : List ℕ) (p : ℕ) → length a ≡ areaSize → s ≡ partOf a p → toSize ≤ length s → be toSize s 0 ≡ toOf a p
 unfolding toOf
 to-there a s p e f h = go (part-view a p e)
   where
-    go : ((isThere (countOf a) p ≡ true) × (length (partOf a p) ≡ parcelSize)) ⊎ ((isThere (countOf a) p ≡ false) × (partOf a p ≡ [])) → be toSize s 0 ≡ toOf a p
-    go (inl v) = ap (λ (l : List ℕ). be toSize l 0) f ∙ sym (pick-true _ _ _ (v .0))
-    go (inr v) = absurd (omega (arith, h, ap length f, ap length (v .1)))
+    go : Part a p → be toSize s 0 ≡ toOf a p
+    go (there t l) = ap (λ (x : List ℕ). be toSize x 0) f ∙ sym (pick-true _ _ _ t)
+    go (none t z) = absurd (omega (arith, h, ap length f, ap length z))
 
 pub no-room : (a : List ℕ) (n p : ℕ) → n ≡ countOf a → n ≡ mostParcels → client ≡ destinationOf a p
 unfolding destinationOf
@@ -130,9 +132,9 @@ pub packet-none : (a s : List ℕ) (p : ℕ) → length a ≡ areaSize → s ≡
 unfolding packetAt packetIn valueOf
 packet-none a s p e f h = go (part-view a p e)
   where
-    go : ((isThere (countOf a) p ≡ true) × (length (partOf a p) ≡ parcelSize)) ⊎ ((isThere (countOf a) p ≡ false) × (partOf a p ≡ [])) → s ≡ packetAt a p
-    go (inl v) = absurd (omega (arith, h, v .1, ap length f))
-    go (inr v) = f ∙ v .1 ∙ ap (λ (l : List ℕ). packetIn (drop toSize l)) (sym (v .1))
+    go : Part a p → s ≡ packetAt a p
+    go (there t l) = absurd (omega (arith, h, l, ap length f))
+    go (none t z) = f ∙ z ∙ ap (λ (l : List ℕ). packetIn (drop toSize l)) (sym z)
 
 pub packet-there : (a s : List ℕ) (p r : ℕ) → s ≡ partOf a p → r ≡ frontSize + length (valueOf (take (length s - toSize) (drop toSize s)))
     → take (toSize + r - toSize) (drop toSize s) ≡ packetAt a p

@@ -14,7 +14,8 @@ part-requires c κs = (search needs, omega (arith, c .count .ensures, count-fits
 returns : tie.Need-returns
 returns c =
     let s = c .before .before .before .before .args in
-    packet-none (s .area .now) _ (s .p) (search needs) (part-of (s .area .now) _ _ (s .p) (c .before .before .count .ensures) (c .before .part .ensures)) (omega arith)
+    let e = part-of (s .area .now) _ _ (s .p) (c .before .before .count .ensures) (c .before .part .ensures) in
+    packet-none (s .area .now) _ (s .p) (search needs) e (omega arith)
 
 sub-size : tie.Need-sub-size
 sub-size c = search needs
@@ -44,7 +45,8 @@ returns-2 : tie.Need-returns-2
 returns-2 c =
     let c1 = c .before .before .before .before in
     let s = c1 .before .before .before .args in
-    packet-there (s .area .now) _ (s .p) _ (part-of (s .area .now) _ _ (s .p) (c1 .before .count .ensures) (c1 .part .ensures)) (c .before .size .ensures .0)
+    let e = part-of (s .area .now) _ _ (s .p) (c1 .before .count .ensures) (c1 .part .ensures) in
+    packet-there (s .area .now) _ (s .p) _ e (c .before .size .ensures .0)
 
 pub packet-of-spec : {M : Type 1} → statement M
 packet-of-spec =
