@@ -1,4 +1,6 @@
 // Big-endian numbers in a slice of bytes, and bytes copied and cleared in a part of one.
+#![tactic(auto)]
+
 ghost use Rattle.std.specs.Prelude.{◌≡◌, ◌+◌, ◌<◌, ◌≤◌, [], ◌∷◌, length, take, drop, replicate, eqb};
 ghost use Rattle.be.specs.Be.{be, digits, swapped, low_first, put};
 

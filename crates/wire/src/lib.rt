@@ -1,6 +1,8 @@
 // Sizes, ops, answers and numbers returned.
 // Sessions, sequences and stamps: numbers of three kinds, each compared only with its own kind.
 // Versions, and the fields of a packet.
+#![tactic(auto)]
+
 ghost use Rattle.std.specs.Prelude.{◌≡◌};
 ghost use Rattle.wire.specs.Numbers.{pick};
 ghost use Rattle.wire.specs.Version.{version, less_session, same_session, last_session, next_session, less_sequence, same_sequence, last_sequence, next_sequence, less_stamp, same_stamp, last_stamp, next_stamp, newer, is_zero, is_given, is_orderly};
@@ -84,23 +86,23 @@ pub fn choose(b: bool, x: u8, y: u8) -> u8
     if b { x } else { y }
 }
 
-#[derive(Drop)]
+#[derive(Clone, Copy)]
 pub struct Session(pub u16);
 
-#[derive(Drop)]
+#[derive(Clone, Copy)]
 pub struct Sequence(pub u32);
 
-#[derive(Drop)]
+#[derive(Clone, Copy)]
 pub struct Stamp(pub u32);
 
-#[derive(Drop)]
+#[derive(Clone, Copy)]
 pub struct Version {
     pub session: Session,
     pub sequence: Sequence,
 }
 
 // The fields of a packet but for its key and its value, which are parts of the packet's bytes.
-#[derive(Drop)]
+#[derive(Clone, Copy)]
 pub struct Head {
     pub op: u8,
     pub answer: u8,
@@ -114,14 +116,14 @@ pub struct Head {
 }
 
 // What reading a packet answers.
-#[derive(Drop)]
+#[derive(Clone, Copy)]
 pub enum Reading {
     Fields(Head),
     Unread(u8),
 }
 
 // What writing a packet answers.
-#[derive(Drop)]
+#[derive(Clone, Copy)]
 pub enum Writing {
     Written,
     Unwritten(u8),
