@@ -213,17 +213,20 @@ reflect_iff r i = (λ e. i.0 (r.0 e), λ e q. r.1 e (i.1 q))
 pub first_holds_lem : (P : ℕ → Type 0) (l : List ℕ) (n : ℕ) → First P l n → P n
 first_holds_lem P (x ∷ l) n (inl h) = subst P (sym h.0) h.1
 first_holds_lem P (x ∷ l) n (inr h) = first_holds_lem P l n h.1
+first_holds_lem P [] n x' = elim x' [ ]
 
 pub first_once : (P : ℕ → Type 0) (l : List ℕ) (m n : ℕ) → First P l m → First P l n → m ≡ n
 first_once P (x ∷ l) m n (inl g) (inl h) = g.0 ∙ sym h.0
 first_once P (x ∷ l) m n (inl g) (inr h) = absurd (h.0 g.1)
 first_once P (x ∷ l) m n (inr g) (inl h) = absurd (g.0 h.1)
 first_once P (x ∷ l) m n (inr g) (inr h) = first_once P l m n g.1 h.1
+first_once P [] m n x'' _ = elim x'' [ ]
 
 -- the first for a property that holds of the same numbers
 pub first_iff : (P Q : ℕ → Type 0) (l : List ℕ) (n : ℕ) → ((m : ℕ) → P m ↔ Q m) → First P l n → First Q l n
 first_iff P Q (x ∷ l) n i (inl h) = inl (h.0, (i x).0 h.1)
 first_iff P Q (x ∷ l) n i (inr h) = inr (λ q. h.0 ((i x).1 q), first_iff P Q l n i h.1)
+first_iff P Q [] n i x'' = elim x'' [ ]
 
 -- ---- the rows leave one answer
 
@@ -286,6 +289,7 @@ row_in (c ∷ cs) (p ∷ ps) m o a = go (eqb c.number p) refl o a (row_in cs ps 
     go true e o (inl h) ih jh = here (h.0 ∙ eqb-true c.number p e)
     go true e o (inr h) ih jh = there (ih o h)
     go false e o a ih jh = there (jh o a)
+row_in [] ps m o a = elim a [ ]
 
 -- a test that holds of every number of a list; one that holds of every two, the first before the second
 abbrev every : (ℕ → Bool) → List ℕ → Bool
@@ -299,6 +303,7 @@ pairwise f (p ∷ ps) = every (f p) ps && pairwise f ps
 every_in : (f : ℕ → Bool) (ps : List ℕ) (m : ℕ) → every f ps ≡ true → Mem m ps → f m ≡ true
 every_in f (p ∷ ps) m e (here h) = ap f h ∙ and_left (f p) (every f ps) e
 every_in f (p ∷ ps) m e (there h) = every_in f ps m (and_right (f p) (every f ps) e) h
+every_in f [] m e x'' = elim x'' [ ]
 
 abbrev differ : ℕ → ℕ → Bool
 differ a b = not (eqb a b)
@@ -347,6 +352,9 @@ judged_by (p ∷ ps) (t ∷ l) (c ∷ cs) d m o a =
         subst (JudgedBy (p ∷ ps) (c ∷ cs)) (sym (pass_guard t.holds t.number (judge l (ok a)) f))
         (later p ps (c ∷ cs) (judge l (ok a)) no (skip ps c cs (judge l (ok a)) (m.1.1 f) (ih (m.2 f) o)))
     go false e o h f ih jh = later p ps (c ∷ cs) (judge (t ∷ l) (ok a)) (other (c ∷ cs) o) (jh o)
+judged_by {A = A} ps [] (c ∷ cs) d m o a = elim m [ ]
+judged_by {A = A} [] (t ∷ l) [] d m o a = elim m [ ]
+judged_by {A = A} (p ∷ ps) (t ∷ l) [] d m o a = elim m [ ]
 
 -- a ladder whose tests stand for the rows, in the order of the numbers, gives what the rows call for
 pub judged : {A : Type 0} (l : List Test) (cs : List Case) → Matches l cs → in_order (numbers cs) priority ≡ true → (a : A) → Judged cs (judge l (ok a))
@@ -360,11 +368,15 @@ judged l cs m o a = go (judge l (ok a)) (judged_by priority l cs refl m o a)
 pub matches_append : (l m : List Test) (cs ds : List Case) → Matches l cs → (Passed l → Matches m ds) → Matches (l ++ m) (cs ++ ds)
 matches_append [] m [] ds x y = y tt
 matches_append (t ∷ l) m (c ∷ cs) ds x y = (x.0, x.1, λ e. matches_append l m cs ds (x.2 e) (λ p. y (e, p)))
+matches_append [] m (c ∷ cs) ds x y = elim x [ ]
+matches_append (t ∷ l) m [] ds x y = elim x [ ]
 
 -- rows that apply only under W, where W holds
 pub matches_under : (W : Type 0) (l : List Test) (cs : List Case) → W → Matches l cs → Matches l (under W cs)
 matches_under W [] [] w m = m
 matches_under W (t ∷ l) (c ∷ cs) w m = (m.0, reflect_iff m.1 (λ p. (w, p), λ p. p.1), λ e. matches_under W l cs w (m.2 e))
+matches_under W [] (c ∷ cs) w m = elim m [ ]
+matches_under W (t ∷ l) [] w m = elim m [ ]
 
 -- ---- of several that apply, the lowest is given
 
@@ -376,6 +388,7 @@ lowest P (p ∷ ps) n m d (inl f) h (there i) =
     omega arith
 lowest P (p ∷ ps) n m d (inr f) h (here e) = absurd (f.0 (subst P e h))
 lowest P (p ∷ ps) n m d (inr f) h (there i) = lowest P ps n m (and_right (every (ltb p) ps) (pairwise ltb ps) d) f.1 h i
+lowest P [] n m d x4 h _ = elim x4 [ ]
 
 pub judged_lowest : (cs : List Case) (n m : ℕ) → in_order (numbers cs) priority ≡ true → First (Applies cs) priority n → Applies cs m → n ≤ m
 judged_lowest cs n m o f h = lowest (Applies cs) priority n m refl f h (row_in cs priority m o h)
