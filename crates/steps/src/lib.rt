@@ -1,8 +1,10 @@
 // The chain record with its state of change, and what the relay does with a packet.
+#![tactic(auto)]
+
 use wire::{Session, Stamp};
 
 // A node that joins at a named one: its id, whether the named node is fenced, and the next slot to copy.
-#[derive(Drop)]
+#[derive(Clone, Copy)]
 pub struct Joining {
     pub named: u16,
     pub fresh: u16,
@@ -10,7 +12,7 @@ pub struct Joining {
     pub next: u16,
 }
 
-#[derive(Drop)]
+#[derive(Clone, Copy)]
 pub enum Change {
     Still,
     Before(Joining),
@@ -18,7 +20,7 @@ pub enum Change {
 }
 
 // The eight places are in chain order; those from length on are 0.
-#[derive(Drop)]
+#[derive(Clone, Copy)]
 pub struct Chain {
     pub length: u8,
     pub places: [u16; 8],
@@ -29,7 +31,7 @@ pub struct Chain {
     pub change: Change,
 }
 
-#[derive(Drop)]
+#[derive(Clone, Copy)]
 pub enum Outcome {
     ToNode(u16),
     ToClient,
@@ -37,7 +39,7 @@ pub enum Outcome {
 }
 
 // What a controller step answers: 0 or a refusal, and the record afterwards.
-#[derive(Drop)]
+#[derive(Clone, Copy)]
 pub struct Ruling {
     pub number: u8,
     pub chain: Chain,

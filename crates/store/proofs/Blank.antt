@@ -33,6 +33,7 @@ blank_done t id n there some few size = judged_gives (blank_rows t id n) (blank_
   where
     none : (m : ℕ) → Applies (blank_rows t id n) m → ⊥
     none m (inl (e, inl z)) = omega arith
+    none m (inr x') = elim x' [ ]
     none m (inl (e, inr (inl z))) = omega arith
     none m (inl (e, inr (inr (inl h)))) = omega arith
     none m (inl (e, inr (inr (inr d)))) = d size

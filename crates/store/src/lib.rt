@@ -1,5 +1,7 @@
 // A table of one node: the sizes of its parts, the states of a slot, and where a key or a free slot stands.
 
+#![tactic(auto)]
+
 // The head: fence, node id, slot count.
 pub const HEAD_SIZE: usize = 8;
 
@@ -24,7 +26,7 @@ pub const VALUED: u8 = 2;
 pub const DELETED: u8 = 3;
 
 // Where a key or a free slot stands in a table.
-#[derive(Drop)]
+#[derive(Clone, Copy)]
 pub enum Found {
     At(usize),
     Nothing,
