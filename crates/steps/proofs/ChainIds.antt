@@ -108,6 +108,7 @@ next_follows i (x ∷ (y ∷ l)) m n = go (eqb x i) refl (λ (m' : Mem i (y ∷ 
     go : (b : Bool) → eqb x i ≡ b → (Mem i (y ∷ l) → Follows i (next_of i (y ∷ l)) (y ∷ l)) → Follows i (pick b y (next_of i (y ∷ l))) (x ∷ (y ∷ l))
     go true e ih = ([], l, ap (λ (z : ℕ). z ∷ (y ∷ l)) (eqb-true x i e))
     go false e ih = up (ih (in_tail (eqb-false x i e) m))
+next_follows i [] m n = elim m [ ]
 
 -- an id stands in a list of distinct ids once
 once : {i : ℕ} {c : List ℕ} (a : List ℕ) → Distinct (a ++ (i ∷ c)) → (Mem i a → ⊥) × (Mem i c → ⊥)
@@ -157,7 +158,9 @@ place_mem j (x ∷ l) h = go (eqb x j) refl h (place_mem j l)
 pub mem_place : (j : ℕ) (l : List ℕ) → Mem j l → place_of j l < length l
 unfolding place_of
 mem_place j (x ∷ l) m = pick_case (λ p. p < suc (length l)) _ _ _ (λ e. omega arith) (λ e. let h = mem_place j l (in_tail (eqb-false x j e) m) in omega arith)
+mem_place j [] m = elim m [ ]
 
 pub get_or_place : (j : ℕ) (l : List ℕ) → Mem j l → get_or l (place_of j l) 0 ≡ j
 unfolding place_of
 get_or_place j (x ∷ l) m = pick_case (λ p. get_or (x ∷ l) p 0 ≡ j) _ _ _ (eqb-true x j) (λ e. get_or_place j l (in_tail (eqb-false x j e) m))
+get_or_place j [] m = elim m [ ]

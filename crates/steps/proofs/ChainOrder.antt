@@ -41,6 +41,7 @@ pub first_ahead : {j : ℕ} (l : List ℕ) → Mem j l → (j ≡ first_of l) �
 unfolding first_of
 first_ahead (x ∷ l) (here e) = inl e
 first_ahead (x ∷ l) (there m) = inr (first refl m)
+first_ahead {j = j} [] x' = elim x' [ ]
 
 pub none_ahead_first : {j : ℕ} (l : List ℕ) → Mem j l → ((i : ℕ) → Ahead i j l → ⊥) → j ≡ first_of l
 none_ahead_first l m n = ⊎_elim (λ e. e) (λ a. absurd (n _ a)) (first_ahead l m)
@@ -60,6 +61,7 @@ last_behind (x ∷ []) (here e) = inl e
 last_behind (x ∷ []) (there m) = elim m [ ]
 last_behind (x ∷ (y ∷ l)) (here e) = inr (first e (last_mem (y ∷ l) (omega arith)))
 last_behind (x ∷ (y ∷ l)) (there m) = ⊎_elim inl (λ a. inr (later a)) (last_behind (y ∷ l) m)
+last_behind {i = i} [] x' = elim x' [ ]
 
 pub none_behind_last : {j : ℕ} (l : List ℕ) → Mem j l → ((i : ℕ) → Ahead j i l → ⊥) → j ≡ last_of l
 none_behind_last l m n = ⊎_elim (λ e. e) (λ a. absurd (n _ a)) (last_behind l m)
@@ -70,6 +72,7 @@ unfolding next_of first_of last_of
 next_mem j (x ∷ []) (here e) n = absurd (n e)
 next_mem j (x ∷ []) (there m) n = elim m [ ]
 next_mem j (x ∷ (y ∷ l)) m n = pick_case (λ z. Mem z (x ∷ (y ∷ l))) _ _ _ (λ e. there (here refl)) (λ e. there (next_mem j (y ∷ l) (in_tail (eqb-false x j e) m) n))
+next_mem j [] m n = elim m [ ]
 
 pub ahead_next : {i : ℕ} (j : ℕ) (l : List ℕ) → Distinct l → Mem j l → Ahead i (next_of j l) l → (i ≡ j) ⊎ Ahead i j l
 unfolding next_of pick
@@ -84,6 +87,7 @@ ahead_next {i} j (x ∷ l) d m a = go (eqb x j) refl a (ahead_next j l d.1)
     go true e (later a) ih = absurd (not_before_first l d.1 a)
     go false e (first p q) ih = inr (first p (in_tail (eqb-false x j e) m))
     go false e (later a) ih = up (ih (in_tail (eqb-false x j e) m) a)
+ahead_next {i = i} j [] d m a = elim m [ ]
 
 -- ---- one id taken out
 
@@ -110,6 +114,7 @@ mem_del_other {j} r (x ∷ l) m n = go (eqb x r) refl m (λ z. mem_del_other r l
     go true e (there m) ih = m
     go false e (here q) ih = here q
     go false e (there m) ih = there (ih m)
+mem_del_other {j = j} r [] m n = elim m [ ]
 
 pub ahead_del : {i j : ℕ} (r : ℕ) (l : List ℕ) → Ahead i j (del r l) → Ahead i j l
 unfolding del pick
@@ -144,6 +149,7 @@ del_place r (x ∷ l) m = go (eqb x r) refl (del_place r l)
     go : (b : Bool) → eqb x r ≡ b → (Mem r l → del r l ≡ take (place_of r l) l ++ drop (suc (place_of r l)) l) → pick b l (x ∷ del r l) ≡ take (pick b 0 (suc (place_of r l))) (x ∷ l) ++ drop (suc (pick b 0 (suc (place_of r l)))) (x ∷ l)
     go true e ih = refl
     go false e ih = ap (λ (k : List ℕ). x ∷ k) (ih (in_tail (eqb-false x r e) m))
+del_place r [] m = elim m [ ]
 
 -- ---- one id put in, just before or just after a named one
 
@@ -183,6 +189,7 @@ mem_ins_old {j} after named fresh (x ∷ l) m = go after (eqb x named) m (mem_in
     go true false (there m) ih = there (ih m)
     go false false (here e) ih = here e
     go false false (there m) ih = there (ih m)
+mem_ins_old {j = j} after named fresh [] m = elim m [ ]
 
 pub mem_ins_fresh : (after : Bool) (named fresh : ℕ) (l : List ℕ) → Mem named l → Mem fresh (ins after named fresh l)
 unfolding ins
@@ -190,6 +197,7 @@ mem_ins_fresh after named fresh (x ∷ l) m =
     pick_case (λ k. Mem fresh k) _ _ _
     (λ e. pick_case (λ k. Mem fresh k) _ _ _ (λ _. there (here refl)) (λ _. here refl))
     (λ e. there (mem_ins_fresh after named fresh l (in_tail (eqb-false x named e) m)))
+mem_ins_fresh after named fresh [] m = elim m [ ]
 
 pub ins_distinct : (after : Bool) (named fresh : ℕ) (l : List ℕ) → Distinct l → (Mem fresh l → ⊥) → Distinct (ins after named fresh l)
 unfolding ins
@@ -216,6 +224,7 @@ ins_place_lem after named fresh (x ∷ l) m = go after (eqb x named) refl (ins_p
     go false true e ih = refl
     go true false e ih = ap (λ (k : List ℕ). x ∷ k) (ih (in_tail (eqb-false x named e) m))
     go false false e ih = ap (λ (k : List ℕ). x ∷ k) (ih (in_tail (eqb-false x named e) m))
+ins_place_lem after named fresh [] m = elim m [ ]
 
 -- it is first if it was put in before the first
 pub ins_first : (after : Bool) (named fresh : ℕ) (l : List ℕ) → Mem named l → (Mem fresh l → ⊥) → First fresh (ins after named fresh l) ↔ ((after ≡ false) × First named l)
@@ -230,6 +239,7 @@ ins_first after named fresh (x ∷ l) m n = go after (eqb x named) refl
     go false true e = (λ f. (refl, (l, ap (λ (z : ℕ). z ∷ l) (eqb-true x named e))), λ f. (x ∷ l, refl))
     go true false e = (λ f. absurd (head _ f), λ f. absurd (true≢false f.0))
     go false false e = (λ f. absurd (head _ f), λ f. absurd (eqb-false x named e (sym (first_is (x ∷ l) f.1))))
+ins_first after named fresh [] m n = elim m [ ]
 
 -- who is ahead of whom afterwards
 pub data Joined (after : Bool) (i j named fresh : ℕ) (l : List ℕ) : Type 0 where

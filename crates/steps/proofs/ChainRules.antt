@@ -124,6 +124,7 @@ pub largest_above : (j : ℕ) (l : List ℕ) → Mem j l → j ≤ largest l
 unfolding largest
 largest_above j (x ∷ l) (here e) = pick_case (λ n. j ≤ n) _ _ _ (λ f. omega arith) (λ f. let g = ltb-false (largest l) x f in omega arith)
 largest_above j (x ∷ l) (there m) = let h = largest_above j l m in pick_case (λ n. j ≤ n) _ _ _ (λ f. let g = ltb-true (largest l) x f in omega arith) (λ f. h)
+largest_above j [] x' = elim x' [ ]
 
 pub start_judged : (n : ℕ) (places : List ℕ) (count : ℕ) → Judged (start_rows n places count) (start_call n places count)
 unfolding start_call
@@ -158,3 +159,4 @@ module _ (n : ℕ) (places : List ℕ) (count : ℕ)
     where
       none : (m : ℕ) → Applies (start_rows n places count) m → ⊥
       none m (inl (e, b)) = b start_rules
+      none m (mathlib.Core.Logic.inr x') = elim x' [ ]

@@ -62,6 +62,7 @@ module _ (r : Chain) (rules : ChainRules r) where
         none n (inr (inr (inr (inl (e, (k, inr b)))))) = b.1 (last b.0)
         none n (inr (inr (inr (inr (inl (e, h)))))) = let w = h.1 in omega arith
         none n (inr (inr (inr (inr (inr (inl (e, h))))))) = let w = h.1 in omega arith
+        none n (inr (inr (inr (inr (inr (inr x6)))))) = elim x6 [ ]
 
     -- remove: a chain node, and not the only one; with a session left if it is the first
     pub remove_done : (id : ℕ) → Mem id (members r) → 1 < r.length → (First id (members r) → r.session.0 < top_session)
@@ -77,6 +78,7 @@ module _ (r : Chain) (rules : ChainRules r) where
         none n (inr (inr (inl (e, h)))) = none_open still h.1
         none n (inr (inr (inr (inl (e, h))))) = h.1 member
         none n (inr (inr (inr (inr (inl (e, h)))))) = let w = h.1.0 in omega arith
+        none n (inr (inr (inr (inr (inr x5))))) = elim x5 [ ]
 
     -- enter: a key that is missing, at a chain node, into the lowest free slot of its table
     pub enter_done : (t : List ℕ) (id : ℕ) (key : List ℕ) (i : ℕ)
@@ -104,6 +106,7 @@ module _ (r : Chain) (rules : ChainRules r) where
         none n (inr (inr (inr (inl (e, h))))) = h.1 count
         none n (inr (inr (inr (inr (inl (e, h)))))) = h.1 missing
         none n (inr (inr (inr (inr (inr (inl (e, h))))))) = h.1 i below empty
+        none n (inr (inr (inr (inr (inr (inr x6)))))) = elim x6 [ ]
 
   module _ (after : Bool) (j : Joining) (change : r.change ≡ change_for after j) where
     -- there is a change, and no other
@@ -130,6 +133,7 @@ module _ (r : Chain) (rules : ChainRules r) where
         none n (inr (inr (inl (e, (k, (i, o, b)))))) = b (meant ∙ ap (λ (x : Joining). x.named) (sym (only o)))
         none n (inr (inr (inr (inl (e, h))))) = h.1.1 count
         none n (inr (inr (inr (inr (inl (e, h)))))) = let w = h.1.1 in omega arith
+        none n (inr (inr (inr (inr (inr x5))))) = elim x5 [ ]
 
     -- copy: the next slot of a marked change, from the named node's table to the new one's, whatever their fences and slots
     pub copy_done : (named fresh : List ℕ)
@@ -154,6 +158,7 @@ module _ (r : Chain) (rules : ChainRules r) where
         none n (inr (inr (inl (e, (k, (i, o, inl b)))))) = b (meant ∙ ap (λ (x : Joining). x.named) (sym (only o)))
         none n (inr (inr (inl (e, (k, (i, o, inr b)))))) = b (meant' ∙ ap (λ (x : Joining). x.fresh) (sym (only o)))
         none n (inr (inr (inr (inl (e, (k, (o, inl b))))))) = b count
+        none n (inr (inr (inr (inr x4)))) = elim x4 [ ]
         none n (inr (inr (inr (inl (e, (k, (o, inr b))))))) = b count'
 
     -- activate: all slots copied; with a session left if it becomes first
@@ -171,6 +176,7 @@ module _ (r : Chain) (rules : ChainRules r) where
             let l = left b.0 (subst (λ (x : Joining). First x.named (members r)) b.1 f) in
             omega arith
         none n (inr (inr (inl (e, (k, inl b))))) = b there
+        none n (inr (inr (inr x3))) = elim x3 [ ]
         none n (inr (inr (inl (e, (k, inr (i, o, b)))))) = let w = ap (λ (x : Joining). x.next) (only o) in omega arith
 
     -- cancel: any change
@@ -181,3 +187,4 @@ module _ (r : Chain) (rules : ChainRules r) where
         none : (n : ℕ) → Applies (cancel_rows r) n → ⊥
         none n (inl (e, b)) = b rules
         none n (inr (inl (e, h))) = h.1 there
+        none n (inr (inr x'')) = elim x'' [ ]

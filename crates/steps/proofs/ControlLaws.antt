@@ -20,17 +20,10 @@ use Rattle.store.proofs.Rules.{rules_fence, length_table}
 use Rattle.store.proofs.Rows.{length_row, row_same, row_other, length_row_put, table_copy, length_fence, head_fence, table_fence}
 use Rattle.steps.specs.declared.Change.{Change}
 use Rattle.steps.specs.declared.Chain.{Chain}
-<<<<<<< HEAD
+use Rattle.steps.specs.declared.Ruling.{Ruling}
 use Rattle.steps.specs.Chain.{joining, with_change}
 use Rattle.steps.specs.Control.{ChainGives, change_for, fence_call, FenceGives, copy_call, copy_bytes, copy_slot, CopyGives, enter_call, EnterGives}
 use Rattle.steps.proofs.ControlViews.{Joins, fence_call_lem, copy_call_lem, enter_call_lem, fence_view, copy_view, enter_view}
-=======
-use Rattle.steps.specs.declared.Ruling.{Ruling}
-use Rattle.steps.specs.Chain.{ChainRules, joining, with_change, is_open}
-use Rattle.steps.specs.Control.{ChainGives, change_for, fence_tests, fence_step, fence_call, FenceGives, copy_call, copy_bytes, copy_slot, CopyGives, enter_call, EnterGives, marked_change}
-use Rattle.steps.proofs.ChainRules.{reflect_chain}
-use Rattle.steps.proofs.ControlViews.{Joins, when_is, marked_for, fence_call_lem, copy_call_lem, enter_call_lem, fence_view, copy_view, enter_view}
->>>>>>> 94271fb (steps: answers with the same number and the same record are the same)
 use Rattle.steps.proofs.ControlRules.{fence_keeps}
 use Rattle.steps.proofs.ControlDone.{fence_done}
 

@@ -49,7 +49,7 @@ module _ (t : Table) (p : Packet) (a : Accepted t p) where
       → ((i : ℕ) (s : Slot) → Stands p.key t.slots i s → Unnumbered p → s.version.session ≡ p.head.version.session → s.version.sequence.0 ≡ top_sequence → ⊥)
       → ((i : ℕ) (s : Slot) → Stands p.key t.slots i s → Numbered p → (Below s.version p.head.version → ⊥) → ⊥)
       → (x : Sent) × (node_step t p ≡ ok x)
-  ready h₈ h₉ h₁₀ h₁₁ h₁₂ = (judged_done _ _ (step_judged t p)).1 none
+  ready h₈ h₉ h₁₀ h₁₁ h₁₂ = (judged_done (node_step_rows t p) _ (step_judged t p)).1 none
     where
       none : (n : ℕ) → Applies (node_step_rows t p) n → ⊥
       none n (inl (e, inl d)) = d a.mine
@@ -61,6 +61,7 @@ module _ (t : Table) (p : Packet) (a : Accepted t p) where
       none n (inr (inr (inr (inr (inl (e, h)))))) = h₁₀ h.1.0 h.1.1 h.1.2 h.0 h.1.3
       none n (inr (inr (inr (inr (inr (inl (e, h))))))) = h₁₁ h.1.0 h.1.1 h.1.2 h.0 h.1.3.0 h.1.3.1
       none n (inr (inr (inr (inr (inr (inr (inl (e, h)))))))) = h₁₂ h.1.0 h.1.1 h.1.2 h.0 h.1.3
+      none n (inr (inr (inr (inr (inr (inr (inr x7))))))) = elim x7 [ ]
 
   -- the case of a step that is done
   case_of : (x : Sent) → node_step t p ≡ ok x → NodeCase t p x

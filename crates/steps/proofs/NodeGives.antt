@@ -30,6 +30,7 @@ over0 (x ∷ l) = ltb 0 x && over0 l
 first_some : (P : ℕ → Type 0) (l : List ℕ) (n : ℕ) → over0 l ≡ true → First P l n → 0 < n
 first_some P (x ∷ l) n h (inl f) = let p = ltb-true 0 x (and_left (ltb 0 x) (over0 l) h) in let e = f.0 in omega arith
 first_some P (x ∷ l) n h (inr f) = first_some P l n (and_right (ltb 0 x) (over0 l) h) f.1
+first_some P [] n h x'' = elim x'' [ ]
 
 pub done_at_0 : {A : Type 0} (cs : List Case) (o : Out A) → Judged cs o → number_of o ≡ 0 → (a : A) × (o ≡ ok a)
 done_at_0 cs (refuse n) j e = absurd (let h = first_some (Applies cs) priority n refl j in omega arith)

@@ -121,7 +121,7 @@ module _ (t q out : List ℕ) (o : (head_of q).op ≡ op_read) (h : Admitted t q
   -- a read is answered where none of them does
   read_done : (x : Sent) × (node_call t q out ≡ ok x)
   unfolding packet_of
-  read_done = (judged_done _ _ (node_judged t q out)).1 none
+  read_done = (judged_done (node_rows t q out) _ (node_judged t q out)).1 none
     where
       none : (n : ℕ) → Applies (node_rows t q out) n → ⊥
       none n (inl a) = h n (let e = a.0 in omega arith) (inl a)
@@ -134,6 +134,7 @@ module _ (t q out : List ℕ) (o : (head_of q).op ≡ op_read) (h : Admitted t q
       none n (inr (inr (inr (inr (inr (inr (inr (inl a)))))))) = a.1.1.0.0 o
       none n (inr (inr (inr (inr (inr (inr (inr (inr (inl a))))))))) = a.1.1.0.0 o
       none n (inr (inr (inr (inr (inr (inr (inr (inr (inr (inl a)))))))))) = a.1.1.0.0 o
+      none n (inr (inr (inr (inr (inr (inr (inr (inr (inr (inr x10)))))))))) = elim x10 [ ]
 
   -- with what the table holds of the key
   pub read_tells : (answer : ℕ) × (value : List ℕ) × Tells (held (key_of q) (table_of t).slots) answer value × Reads t q out answer (version_at (key_of q) (table_of t).slots) value

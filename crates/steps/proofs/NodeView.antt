@@ -288,7 +288,7 @@ unfolding node_step
 node_view t p x e = record { accepted = accepts t p x clear; case = go (find p.key t.slots) refl (ok_inj (sym (past_all (node_tests t p (find p.key t.slots)) _ _ e).1)) }
   where
     clear : (n : ℕ) → Applies (node_step_rows t p) n → ⊥
-    clear = (judged_done _ _ (step_judged t p)).0 (x, e)
+    clear = (judged_done (node_step_rows t p) (node_step t p) (step_judged t p)).0 (x, e)
 
     go : (f : Found) → find p.key t.slots ≡ f → x ≡ node_does t p f → NodeCase t p x
     go Nothing none d = missing_case t p x clear none d

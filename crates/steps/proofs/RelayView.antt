@@ -125,6 +125,7 @@ reflect_stops Still p j = reflect_false none
   where
     none : Stops Still p j → ⊥
     none (tail c e f) = let z : ◌≡◌ {A = ℕ} 0 1 = cc in omega arith
+    none (changing c x' _ _) = elim x' [ ]
 reflect_stops (Before c) p j = reflect_iff (reflect_and (reflect_eqb _ _) (reflect_not (reflect_eqb _ _))) (λ h. changing c before h.0 h.1, from)
   where
     from : Stops (Before c) p j → (j ≡ c.named) × Alters p

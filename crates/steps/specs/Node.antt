@@ -1,11 +1,10 @@
 -- Document 01, "Node step": what a node does with a packet, and under which numbers it refuses.
-use Rattle.std.specs.Prelude.{ℕ, ◌+◌, ◌<◌, ◌≡◌, List, [], ◌∷◌, Bool, true, false, ◌&&◌, ◌||◌, not, ◌⊎◌, length, get_or, ltb, eqb}
+use Rattle.std.specs.Prelude.{ℕ, ◌<◌, ◌≡◌, List, [], ◌∷◌, Bool, true, false, ◌&&◌, ◌||◌, not, ◌⊎◌, length, get_or, ltb, eqb}
 use Rattle.wire.specs.Numbers.{Out, ok, number_of, left, judge, test, Test, Case, case, under, pick, broken, small_outlet, malformed, misaddressed, below_fence, sessionless, key_missing, session_over, no_number_left, not_newer}
-use Rattle.wire.specs.Version.{session, sequence, version, zero_version, less_session, same_session, last_sequence, next_sequence, top_sequence, less_stamp, newer, Below}
+use Rattle.wire.specs.Version.{sequence, zero_version, less_session, same_session, last_sequence, next_sequence, top_sequence, less_stamp, newer, Below}
 use Rattle.wire.specs.Packet.{Packet, packet, packet_of, sent_in, well_formed, Formed, outlet_size, op_read, op_write, query, answer_value, answer_no_value, answer_no_key}
 use Rattle.wire.specs.declared.Version.{Version}
 use Rattle.store.specs.Table.{Slot, slot, Table, table_of, table_ok, TableRules, find, free_slot, free, valued, deleted, Write, keep, set_row, write_bytes}
-use Rattle.store.specs.Held.{missing, holds}
 use Rattle.store.specs.declared.Found.{Found}
 use Rattle.store.specs.declared.Found.TheVariants.{At, Nothing}
 
