@@ -126,6 +126,7 @@ nowhere {A} {n} {l} e h = absurd (go l e h)
   where
     go : (l : List Test) → lacks n l ≡ true → Stopped n l → ⊥
     go (t ∷ l) e (at q _) = eqb-false t.number n (not-true (eqb t.number n) (and_left (not (eqb t.number n)) (lacks n l) e)) q
+    go [] e x'' = elim x'' [ ]
     go (t ∷ l) e (past _ s) = go l (and_right (not (eqb t.number n)) (lacks n l) e) s
 
 -- past a test of another number, and at the only one that has the number

@@ -81,10 +81,11 @@ module _ {s : State} {p : Packet} (rch : Reach s) (c : ClientWrite p) where
     only_11 n (inr (inr (inr (inr (inr (inl (e, h))))))) =
         (e, ap (λ (z : Slot). z.version.session) (sym (is h.1.2)) ∙ h.1.3.0, ap (λ (z : Slot). z.version.sequence.0) (sym (is h.1.2)) ∙ h.1.3.1)
     only_11 n (inr (inr (inr (inr (inr (inr (inl (e, h)))))))) = absurd (h.0.1 refl)
+    only_11 n (inr (inr (inr (inr (inr (inr (inr x8))))))) = elim x8 [ ]
 
     refused : (n : ℕ) → node_step (s.table (head s)) (to_head s p) ≡ refuse n → (n ≡ no_number_left) × (x.version.session ≡ s.chain.session) × (x.version.sequence.0 ≡ top_sequence)
     refused n e =
-        only_11 n (first_holds_lem (Applies (node_step_rows (s.table (head s)) (to_head s p))) priority n ((judged_refused _ _ n (step_judged (s.table (head s)) (to_head s p))).0 e))
+        only_11 n (first_holds_lem (Applies (node_step_rows (s.table (head s)) (to_head s p))) priority n ((judged_refused (node_step_rows (s.table (head s)) (to_head s p)) _ n (step_judged (s.table (head s)) (to_head s p))).0 e))
 
     -- it takes the write, or refuses with 11
     pub head_does : (node_step (s.table (head s)) (to_head s p) ≡ refuse no_number_left) ⊎ ((y : Sent) × (node_step (s.table (head s)) (to_head s p) ≡ ok y))
@@ -101,5 +102,5 @@ module _ {s : State} {p : Packet} (rch : Reach s) (c : ClientWrite p) where
       λ e. let h = refused no_number_left e in (h.1, h.2),
       λ h.
           let (i, st) = held_stands p.key (s.table (head s)).slots x there in
-          ⊎_elim (λ e. e) (λ d. absurd ((judged_done _ _ (step_judged _ _)).0 d no_number_left (inr (inr (inr (inr (inr (inl (refl, ((write_alters c, refl), (i, x, st, h))))))))))) head_does,
+          ⊎_elim (λ e. e) (λ d. absurd ((judged_done (node_step_rows (s.table (head s)) (to_head s p)) _ (step_judged (s.table (head s)) (to_head s p))).0 d no_number_left (inr (inr (inr (inr (inr (inl (refl, ((write_alters c, refl), (i, x, st, h))))))))))) head_does,
     )

@@ -4,7 +4,7 @@ use mathlib.Core.Path.{◌≡◌, refl, sym, ap, ap₂, ◌∙◌, subst}
 use mathlib.Core.List.Memᴰ.{head as here}
 use mathlib.Core.List.Memᴰ.{tail as there}
 use mathlib.Core.List.{List, [], ◌∷◌, ◌++◌, Memᴰ as Mem}
-use mathlib.Core.Logic.{◌⊎◌, inl, inr, ⊎_elim}
+use mathlib.Core.Logic.{inl, inr, ⊎_elim}
 use native.Mathlib.Omega.{arith}
 use lib.ListN.{length, get_or}
 use Rattle.wire.specs.Version.{zero_version, AtMost, Below}
@@ -129,6 +129,7 @@ once k (numbered k' u e n w q ∷ l) {v} {c} {d} {i} {j} {a} {b} {o} {p} g (ther
 once k (numbered k' u e n w q ∷ l) g (there m) (there n') = once k l g.1 m n'
 once k (acked k' u q ∷ l) g m n = once k l g (other_kind (λ z. omega arith) m) (other_kind (λ z. omega arith) n)
 once k (shown k' u q ∷ l) g m n = once k l g (other_kind (λ z. omega arith) m) (other_kind (λ z. omega arith) n)
+once k [] {v = v} {c = c} {d = d} {i = i} {j = j} {a = a} {b = b} {o = o} {p = p} g m n = elim m [ ]
 
 logged_once : (k : List ℕ) (l : List Ghost) {v : Version} {c d : Content} → Growing k l → Logged l k v c → Logged l k v d → c ≡ d
 logged_once k l g (logged i a o m) (logged j b p n) = once k l g m n

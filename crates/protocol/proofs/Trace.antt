@@ -94,6 +94,7 @@ of_entry tr g = (to tr, λ h. from tr h.0 h.1 h.2)
 
     from : (tr : List Entry) (x : Entry) → Mem x tr → Mem g (ghosts_of x.event x.made x.before) → Mem g (all_ghosts tr)
     from (y ∷ l) x (here e) h = append_left (all_ghosts l) (subst (λ (z : Entry). Mem g (ghosts_of z.event z.made z.before)) e h)
+    from [] x x4 h = elim x4 [ ]
     from (y ∷ l) x (there m) h = append_right (ghosts_of y.event y.made y.before) (from l x m h)
 
 -- the ghosts of an entry, by what was delivered and made
