@@ -1,4 +1,6 @@
 // Packets in bytes: reading one, its key and its value as parts of it, and writing one.
+#![tactic(auto)]
+
 ghost use Rattle.std.specs.Prelude.{◌≡◌, ◌≤◌, length};
 ghost use Rattle.be.specs.Be.{put};
 ghost use Rattle.wire.specs.Packet.{front_size, key_size, value_size, outlet_size, head_of, key_of, value_of, front_of, back_of, query, shape_ok, head_ok, well_formed, read_call, reading_of, key_part, value_part, packet, packet_ok, sent_in, WriteGives};
