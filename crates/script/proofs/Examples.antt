@@ -3,14 +3,13 @@ use Prim.Native.Nat.{ℕ}
 use mathlib.Core.Path.{◌≡◌, refl}
 use mathlib.Core.Bool.{true, false}
 use mathlib.Core.List.{List, [], ◌∷◌, map}
-use Rattle.bytes.specs.Bytes.{index_of}
 use Rattle.wire.specs.Numbers.{pick}
 use Rattle.wire.specs.Packet.{op_read, op_write, op_delete}
 use Rattle.script.specs.declared.Order.TheVariants.{Open, Fence, Copy, Activate, Cancel, Remove}
 use Rattle.script.specs.declared.Command.{Command}
 use Rattle.script.specs.declared.Command.TheVariants.{Enter, Send, Deliver, Halt, Rule, Unclear}
 use Rattle.script.specs.Sizes.{no_such}
-use Rattle.script.specs.Words.{first_word, behind, spaces, word_count, plain, text_of, digits, decimal, capped, number_from, number_of}
+use Rattle.script.specs.Words.{index_of, first_word, behind, spaces, word_count, plain, text_of, digits, decimal, capped, number_from, number_of}
 use Rattle.script.specs.Commands.{of_one, of_two, bare_of, of_three, write_of, open_of, of_four, of_count, command_of}
 
 -- a line with the command it makes

@@ -4,19 +4,17 @@ use mathlib.Core.Path.{◌≡◌, refl, sym, ap, ap₂, ◌∙◌}
 use mathlib.Core.Bool.{Bool, true, false, ◌&&◌, ◌||◌}
 use mathlib.Core.List.{List, [], ◌∷◌}
 use native.Mathlib.Omega.{arith}
-use native.Mathlib.Nat.{zero-add}
 use native.Mathlib.Numerals.{add-one}
 use lib.ListN.{length, get_or, take, drop, length-drop, drop_of_length-le}
 use lib.Seq.{drop-cons, take_all}
 use lib.Dec.{eqb, ltb, leb}
 use borrow.Author.Tests.{ltb-true, ltb-false, lt-ltb, le-ltb, leb-true, eq-eqb, ne_eqb}
-use Rattle.bytes.specs.Bytes.{slice, index_of, index_after}
 use Rattle.wire.specs.Numbers.{pick, eqs}
 use Rattle.wire.proofs.Numbers.{pick_true, pick_false, pick_case, and_left, reflects_no, reflect_eqs}
 use Rattle.script.specs.declared.Command.{Command}
 use Rattle.script.specs.declared.Command.TheVariants.{Unclear}
 use Rattle.script.specs.Sizes.{most_line, most_text, no_such}
-use Rattle.script.specs.Words.{is_digit, is_letter, behind, spaces, plain, text_of, digits, decimal, capped, longer, number_from, number_of, word, word_count, key_of}
+use Rattle.script.specs.Words.{index_of, index_after, is_digit, is_letter, behind, spaces, plain, text_of, digits, decimal, capped, longer, number_from, number_of, word, word_count, key_of}
 use Rattle.script.specs.Commands.{of_one, of_two, of_three, of_four, of_count, command_of}
 
 -- ---- what is left of a list
@@ -38,9 +36,18 @@ index_fits b (x ∷ l) = go (eqb x b) (index_fits b l)
     go true h = omega arith
     go false h = omega arith
 
-pub index_whole : (b : ℕ) (l : List ℕ) → 0 + index_of b (slice 0 (length l) l) ≡ index_of b l
-unfolding slice
-index_whole b l = zero-add (index_of b (take (length l) l)) ∙ ap (index_of b) (take_all (length l) l (omega arith))
+-- none of the first i bytes is b: a byte further, at b, and at the end
+pub index_turn : (l : List ℕ) (i : ℕ) → i < length l → (get_or l i 0 ≡ 32 → ⊥) → i + index_of 32 (drop i l) ≡ i + 1 + index_of 32 (drop (i + 1) l)
+unfolding index_of
+index_turn l i h n = ap (λ (m : List ℕ). i + index_of 32 m) (left_at l i h) ∙ ap (λ (t : Bool). i + index_after t (index_of 32 (drop (i + 1) l))) (ne_eqb _ _ n) ∙ omega arith
+
+pub index_found : (l : List ℕ) (i : ℕ) → i < length l → get_or l i 0 ≡ 32 → i + index_of 32 (drop i l) ≡ i
+unfolding index_of
+index_found l i h e = ap (λ (m : List ℕ). i + index_of 32 m) (left_at l i h) ∙ ap (λ (t : Bool). i + index_after t (index_of 32 (drop (i + 1) l))) (eq-eqb _ _ e) ∙ omega arith
+
+pub index_end : (l : List ℕ) (i : ℕ) → length l ≤ i → i + index_of 32 (drop i l) ≡ i
+unfolding index_of
+index_end l i h = ap (λ (m : List ℕ). i + index_of 32 m) (none_left l i h) ∙ omega arith
 
 -- what is behind it, as a part of the line
 part : (l : List ℕ) (k : ℕ) → take (length l - k) (drop k l) ≡ drop k l

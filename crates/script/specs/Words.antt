@@ -1,6 +1,5 @@
 -- Document 01, "Bench": the words of a line, and what a word can be: a key or a value, or a number.
-use Rattle.std.specs.Prelude.{ℕ, zero, suc, ◌+◌, ◌-◌, ◌*◌, Bool, true, ◌&&◌, ◌||◌, List, [], ◌∷◌, length, take, drop, eqb, ltb, leb}
-use Rattle.bytes.specs.Bytes.{index_of}
+use Rattle.std.specs.Prelude.{ℕ, zero, suc, ◌+◌, ◌-◌, ◌*◌, Bool, true, false, ◌&&◌, ◌||◌, List, [], ◌∷◌, length, take, drop, eqb, ltb, leb}
 use Rattle.wire.specs.Numbers.{pick}
 use Rattle.script.specs.Sizes.{most_text, no_such}
 
@@ -8,6 +7,15 @@ use Rattle.script.specs.Sizes.{most_text, no_such}
 
 abbrev pub space : ℕ
 space = 32
+
+-- how far on the byte b is first, or the length of a list that has none
+abbrev pub index_after : Bool → ℕ → ℕ
+index_after true n = 0
+index_after false n = suc n
+
+unfoldable pub index_of : ℕ → List ℕ → ℕ
+index_of b [] = 0
+index_of b (x ∷ l) = index_after (eqb x b) (index_of b l)
 
 -- the first word, and the line behind it and its space
 unfoldable pub first_word : List ℕ → List ℕ

@@ -1,9 +1,10 @@
 // A line of a script: its words, and the command that they make.
+#![tactic(auto)]
+
 ghost use Rattle.std.specs.Prelude.{◌≤◌, ◌≡◌, length, eqb};
-ghost use Rattle.bytes.specs.Bytes.{index_of};
 ghost use Rattle.wire.specs.Numbers.{pick, eqs};
 ghost use Rattle.script.specs.Sizes.{no_such};
-ghost use Rattle.script.specs.Words.{first_word, behind, word, word_count, is_digit, is_letter, plain, text_of, key_of, value_of, capped, longer, number_of};
+ghost use Rattle.script.specs.Words.{index_of, first_word, behind, word, word_count, is_digit, is_letter, plain, text_of, key_of, value_of, capped, longer, number_of};
 ghost use Rattle.script.specs.Commands.{of_one, of_two, bare_of, of_three, write_of, open_of, of_four, of_count, command_of};
 
 use wire::{OP_DELETE, OP_READ, OP_WRITE};
@@ -17,7 +18,7 @@ const MOST_TEXT: usize = 16;
 const NO_SUCH: u16 = 65;
 
 // The controller's steps, and all commands. Nodes and parcels by their numbers; key and value are parts of the line.
-#[derive(Drop)]
+#[derive(Clone, Copy)]
 pub enum Order {
     Open(bool, u16, u16),
     Fence,
@@ -27,7 +28,7 @@ pub enum Order {
     Remove(u16),
 }
 
-#[derive(Drop)]
+#[derive(Clone, Copy)]
 pub enum Command {
     Enter(u16),
     Send(u8),
@@ -43,7 +44,12 @@ pub enum Command {
 fn gap(line: &[u8]) -> usize
     ensures { (result ≡ index_of 32 line.now) × (result ≤ length line.now) }
 {
-    bytes::scan::find(line, 0, line.len(), b' ')
+    for (i, b) in line.iter().enumerate() {
+        if *b == b' ' {
+            return i;
+        }
+    }
+    line.len()
 }
 
 // The first word. Words are what stands between single spaces, so a word may be empty.

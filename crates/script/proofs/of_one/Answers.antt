@@ -1,0 +1,12 @@
+-- Commands of one word: each word is compared, the first that fits decides.
+use Rattle.std.proofs.Common.{refl}
+use Rattle.script.specs.Commands.{of_one}
+use Rattle.script.proofs.Laws.{picked}
+use Rattle.script.proofs.of_one.Goals as goal
+
+pub returns : goal.returns
+unfolding of_one
+returns c =
+    picked c.choose.ensures c.same-4.ensures refl
+    (picked c.choose-c.ensures c.same-3.ensures refl
+    (picked c.choose-b.ensures c.same-2.ensures refl (picked c.choose-a.ensures c.same.ensures refl refl)))
