@@ -1,10 +1,13 @@
 -- Each public call asks nothing of its caller, and no second outcome fits its contract: two that do, for the same arguments, are equal.
 use Prim.Native.Nat.{ℕ}
-use mathlib.Core.Path.{sym, ◌∙◌}
+use mathlib.Core.Path.{◌≡◌, sym, ◌∙◌}
 use mathlib.Core.List.{List}
 use Rattle.be.specs.Promise.{Exact}
 use Rattle.be.proofs.Promise.{equation, exact, pair}
+use Rattle.wire.specs.Packet.{Packet, read_call, reading_of, key_part, value_part, key_of as the_key, value_of as the_value, WriteGives}
+use Rattle.wire.specs.declared.Reading.{Reading}
 use Rattle.wire.specs.declared.Writing.{Writing}
+use Rattle.packet.specs.Emit.{emitted}
 use Rattle.packet.proofs.read.Reads as read
 use Rattle.packet.proofs.key_of.Reads as key_of
 use Rattle.packet.proofs.value_of.Reads as value_of_lem
@@ -33,3 +36,26 @@ emit_exact = equation
 
 pub write_exact : Exact {O = Writing × List ℕ} write.Asked write.Learnt (λ r e. (r, e.0.now))
 write_exact = exact (λ _ _ _ _ _ _ p q. pair (p.answer ∙ sym q.answer, p.outlet ∙ sym q.outlet))
+
+-- ---- the same with no call: no second outcome fits what a contract says
+
+pub read_once : (p : List ℕ) (r s : Reading) → r ≡ reading_of (read_call p) → s ≡ reading_of (read_call p) → r ≡ s
+read_once p r s e f = e ∙ sym f
+
+pub key_once : (p k l : List ℕ) → k ≡ key_part p → l ≡ key_part p → k ≡ l
+key_once p k l e f = e ∙ sym f
+
+pub value_once : (p v w : List ℕ) → v ≡ value_part p → w ≡ value_part p → v ≡ w
+value_once p v w e f = e ∙ sym f
+
+pub key_of_once : (p k l : List ℕ) → k ≡ the_key p → l ≡ the_key p → k ≡ l
+key_of_once p k l e f = e ∙ sym f
+
+pub value_of_once : (p v w : List ℕ) → v ≡ the_value p → w ≡ the_value p → v ≡ w
+value_of_once p v w e f = e ∙ sym f
+
+pub emit_once : (out a b : List ℕ) (p : Packet) → a ≡ emitted out p → b ≡ emitted out p → a ≡ b
+emit_once out a b p e f = e ∙ sym f
+
+pub write_once : (out a b : List ℕ) (p : Packet) (w x : Writing) → WriteGives out p w a → WriteGives out p x b → (w ≡ x) × (a ≡ b)
+write_once out a b p w x g h = (g.answer ∙ sym h.answer, g.outlet ∙ sym h.outlet)
