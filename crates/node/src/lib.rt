@@ -1,4 +1,6 @@
 // The node step: what a node does with a packet is settled first, and then one packet is sent and one slot written at most.
+#![tactic(auto)]
+
 ghost use Rattle.std.specs.Prelude.{◌≡◌, ◌≤◌, length, eqb};
 ghost use Rattle.wire.specs.Numbers.{pick};
 ghost use Rattle.wire.specs.Packet.{key_of, value_of, sent_in, outlet_size, op_read, op_write};
@@ -12,14 +14,14 @@ use store::Found;
 use wire::{Head, Reading, Sequence, Session, Version};
 
 // What is sent: answer and version. A query goes on and is stored in the slot; answer 1 shows the slot's value.
-#[derive(Drop)]
+#[derive(Clone, Copy)]
 struct Reply {
     answer: u8,
     version: Version,
     slot: usize,
 }
 
-#[derive(Drop)]
+#[derive(Clone, Copy)]
 enum Way {
     Refused(u8),
     Sends(Reply),

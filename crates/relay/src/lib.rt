@@ -1,7 +1,9 @@
 // The relay step: a packet is sent to a node, sent to the client, or dropped under a number.
+#![tactic(auto)]
+
 ghost use Rattle.std.specs.Prelude.{◌≡◌, List, ℕ, ◌≤◌, length};
 ghost use Rattle.wire.specs.Packet.{Packet, head_of, value_of, sent_in, Formed, outlet_size};
-ghost use Rattle.steps.specs.Relay.{node, to_client, stops as stopsAt, stray_client, stray_node, outcome_of, outcome_number, relay_step, RelayGives};
+ghost use Rattle.steps.specs.Relay.{node, to_client, stops as stops_at, stray_client, stray_node, outcome_of, outcome_number, relay_step, RelayGives};
 ghost use Rattle.relay.specs.Ways.{read_as, Ready, unless_stopped, version_to, for_node, for_client, head_to, under_head, Leaves};
 
 use steps::{Chain, Change, Outcome};
@@ -26,7 +28,7 @@ fn stray_node(h: Head) -> bool
 
 // Whether a change stops what is addressed to a node.
 fn stops(change: Change, read: bool, id: u16) -> bool
-    ensures { result ≡ stopsAt change read id }
+    ensures { result ≡ stops_at change read id }
 {
     match change {
         Change::Still => false,
