@@ -1,4 +1,7 @@
 // The chain record: its rules, the ids of its chain, its state of change, and the eight places with one id inserted or removed.
+
+#![tactic(auto)]
+
 ghost use Rattle.std.specs.Prelude.{◌≡◌, ◌+◌, ◌<◌, ◌≤◌, min, get_or, take, drop, ltb, eqb};
 ghost use Rattle.store.specs.Table.{all_zero};
 ghost use Rattle.wire.specs.Numbers.{pick, number_of};
