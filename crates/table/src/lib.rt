@@ -1,4 +1,7 @@
 // The bytes of a table: its check, the slot that has a key, the parts of a slot, and what is written to a table.
+
+#![tactic(auto)]
+
 ghost use Rattle.std.specs.Prelude.{◌≡◌, ◌+◌, ◌*◌, ◌-◌, ◌<◌, ◌≤◌, length};
 ghost use Rattle.wire.specs.Packet.{key_size, value_size};
 ghost use Rattle.store.specs.Table.{slot, row_of, row_size, row_at, slots, whole_slots, table_ok, frame_ok, find, lowest_free, head_size, BlankGives, blank_bytes};

@@ -1,0 +1,26 @@
+-- `table::fill` meets its contract: six pieces, one behind the other, and the zeros that are left behind them are the row.
+use Rattle.std.proofs.Common.{◌+◌, [], ◌∷◌, ◌≡◌, refl, ap, ◌∙◌, arith, rules, length, drop, set, length-set}
+use Rattle.be.proofs.Laws.{start, grow, sets_put}
+use Rattle.be.specs.Be.{digits}
+use Rattle.wire.specs.Packet.{key_size, value_size}
+use Rattle.store.specs.Table.{row_of, row_size, state_at, size_at, value_at}
+use Rattle.table.proofs.Laws.{drop_cleared, behind}
+use Rattle.table.proofs.fill.Goals as goal
+
+pub returns : goal.returns
+unfolding row_of
+returns c =
+    let s = c.args in
+    let p = c.requires in
+    let n = length s.value.now in
+    let l = c.put_bytes.new.s in
+    let l' = set l state_at s.state in
+    let size : length l ≡ row_size = search rules in
+    let size' : length l' ≡ row_size = simp length-set size in
+    let g2 = grow s.key.now key_size (start c.put_zeros.new.s) c.put_bytes.ensures (omega arith) in
+    let g3 = grow (s.state ∷ []) size_at g2 (sets_put (s.state ∷ []) l state_at (omega arith)) refl in
+    let g4 = grow (n ∷ []) 18 g3 (sets_put (n ∷ []) l' size_at (omega arith)) refl in
+    let g5 = grow (digits 2 s.v.session.0) 20 g4 c.put16.ensures refl in
+    let g6 = grow (digits 4 s.v.sequence.0) value_at g5 c.put32.ensures refl in
+    let g7 = grow s.value.now (value_at + n) g6 c.put_bytes-2.ensures refl in
+    behind g7 (ap (drop (value_at + n)) c.put_zeros.ensures ∙ drop_cleared s.part.now value_at value_size n (omega arith) (omega arith))

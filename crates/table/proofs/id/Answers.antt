@@ -1,0 +1,14 @@
+-- `table::id` meets its contract.
+use Rattle.std.proofs.Common.{sym, ◌∙◌, le-leb}
+use borrow.Author.Tests.{lt-leb}
+use Rattle.wire.proofs.Numbers.{pick_true, pick_false}
+use Rattle.table.specs.Parts.{id_part}
+use Rattle.table.proofs.id.Goals as goal
+
+pub returns-then-t-lt-HEAD_SIZE : goal.returns-then-t-lt-HEAD_SIZE
+unfolding id_part
+returns-then-t-lt-HEAD_SIZE c = sym (pick_false _ _ _ (lt-leb _ _ c.if-t-lt-HEAD_SIZE.true))
+
+pub returns : goal.returns
+unfolding id_part
+returns c = c.read16.ensures ∙ sym (pick_true _ _ _ (le-leb _ _ c.if-t-lt-HEAD_SIZE.false))

@@ -1,0 +1,18 @@
+-- `table::version` meets its contract.
+use Rattle.std.proofs.Common.{sym, ap₂, ◌∙◌, eq-eqb, ne_eqb}
+use Rattle.wire.specs.Version.{version}
+use Rattle.wire.proofs.Numbers.{pick_true, pick_false}
+use Rattle.store.specs.Table.{slot_of}
+use Rattle.table.specs.Parts.{version_part}
+use Rattle.table.proofs.version.Goals as goal
+
+pub returns-then-r-eq-ROW_SIZE : goal.returns-then-r-eq-ROW_SIZE
+unfolding version_part slot_of
+returns-then-r-eq-ROW_SIZE c =
+    c.new.ensures
+    ∙ ap₂ version c.read16.ensures c.read32.ensures
+    ∙ sym (pick_true _ _ _ (eq-eqb _ _ c.if-r-eq-ROW_SIZE.true))
+
+pub returns : goal.returns
+unfolding version_part
+returns c = c.new-2.ensures ∙ sym (pick_false _ _ _ (ne_eqb _ _ c.if-r-eq-ROW_SIZE.false))
