@@ -1,5 +1,8 @@
 // The controller steps on the record alone: open, activate, cancel, remove.
 // A step's number is made from its last row up: a row that applies takes the place of those behind it.
+
+#![tactic(auto)]
+
 ghost use Rattle.std.specs.Prelude.{◌≡◌, not, [], ◌∷◌, ◌<◌, ltb};
 ghost use Rattle.wire.specs.Numbers.{pick, test, first_number, broken, out_of_turn};
 ghost use Rattle.wire.specs.Version.{next_session};
