@@ -1,0 +1,16 @@
+-- `relay::over_fields`: what the step sends stands in the outlet.
+use mathlib.Core.Path.{◌∙◌}
+use Rattle.std.proofs.Common.{sym}
+use Rattle.relay.proofs.Laws.{length_read, length_to, leaves_sent}
+use Rattle.relay.proofs.over_fields.Goals as goal
+
+pub send-requires : goal.send-requires
+send-requires c =
+    let d = c.requires in
+    (length_to d c.args.c c.way-o.result (c.head_to.ensures c.args.packet.now (length_read d)), d.formed, d.room)
+
+pub returns : goal.returns
+returns c =
+    let d = c.requires in
+    let p = c.args.packet.now in
+    leaves_sent d c.args.c (c.way-o.ensures p) (sym c.number.ensures ∙ c.if-number-ne0.false) (c.head_to.ensures p (length_read d)) c.send.ensures
