@@ -1,4 +1,6 @@
 // The bench as a program: a script on standard input, what each line gives on standard output.
-fn main() {
-    bench_core::run();
+#![tactic(auto)]
+
+fn main(rt: HostRuntime) {
+    bench_core::run(&rt);
 }

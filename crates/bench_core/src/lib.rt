@@ -1,4 +1,6 @@
 // The bench: reads a script from standard input, line by line, and writes a line for each.
+#![tactic(auto)]
+
 ghost use Rattle.std.specs.Prelude.{◌≤◌, length};
 
 mod change;
@@ -10,6 +12,7 @@ use nodes::{Nodes, ROWS, TABLE_SIZE};
 use numbers::RECORD_SIZE;
 use parcels::{AREA_SIZE, Area, UNCLEAR};
 use script::Command;
+use std::io::Read;
 
 // The record in numbers, as the exports take it.
 type Record = [u32; RECORD_SIZE];
@@ -17,7 +20,7 @@ type Record = [u32; RECORD_SIZE];
 // Room for a line, and for what was read and not passed on yet.
 const INPUT_SIZE: usize = 65 + 4096;
 
-type Input = [u8; INPUT_SIZE];
+type Room = [u8; INPUT_SIZE];
 
 // One line: 0 or a refusal.
 fn step(rec: &mut Record, nodes: &mut Nodes, area: &mut Area, line: &[u8]) -> u8 {
@@ -33,10 +36,10 @@ fn step(rec: &mut Record, nodes: &mut Nodes, area: &mut Area, line: &[u8]) -> u8
 }
 
 // A line: what it gives is written.
-fn answer(rec: &mut Record, nodes: &mut Nodes, area: &mut Area, number: u64, line: &[u8]) {
+fn answer(rt: &impl Print, rec: &mut Record, nodes: &mut Nodes, area: &mut Area, number: u64, line: &[u8]) {
     let n = parcels::count(area);
     let result = step(rec, nodes, area, line);
-    parcels::tell(area, number, result, n);
+    parcels::tell(rt, area, number, result, n);
 }
 
 // What an area begins with.
@@ -47,25 +50,26 @@ fn front(s: &[u8], n: usize) -> &[u8]
 }
 
 // All lines of the input. A proved loop has to end, so there is a last number.
-fn play(rec: &mut Record, nodes: &mut Nodes, area: &mut Area, input: &mut Input) {
+fn play<R: Read>(rt: &impl Print, reader: &mut R, rec: &mut Record, nodes: &mut Nodes, area: &mut Area, input: &mut Room) {
     let mut rest = Unread { at: 0, end: 0 };
     let mut number = 0;
     while number < u64::MAX {
         number += 1;
-        let l = lines::input::next(input, rest);
+        let l = lines::input::next(reader, input, rest);
         if !l.there {
             return;
         }
-        answer(rec, nodes, area, number, front(input, l.used));
+        answer(rt, rec, nodes, area, number, front(input, l.used));
         rest = l.rest;
     }
 }
 
-pub fn run() {
+pub fn run(rt: &(impl Input + Print)) {
     let mut rec = [0u32; RECORD_SIZE];
     let mut nodes = [[0u8; TABLE_SIZE]; ROWS];
     let mut area = [0u8; AREA_SIZE];
     let mut input = [0u8; INPUT_SIZE];
+    let mut reader = rt.reader();
     nodes::start(&mut rec, &mut nodes);
-    play(&mut rec, &mut nodes, &mut area, &mut input);
+    play(rt, &mut reader, &mut rec, &mut nodes, &mut area, &mut input);
 }

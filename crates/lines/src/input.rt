@@ -1,27 +1,29 @@
-// Lines of standard input. One area has the line in front, and behind it what was read and not passed on yet.
+// Lines of an input. One area has the line in front, and behind it what was read and not passed on yet.
 ghost use Rattle.std.specs.Prelude.{◌≡◌, ◌+◌, ◌≤◌, length};
 ghost use Rattle.lines.specs.Sizes.{line_size};
+
+use std::io::Read;
 
 // One byte more than a line may have, so that the line is seen to be too long.
 const LINE_SIZE: usize = 65;
 
 // What is unread: from `at` to `end` of what was read.
-#[derive(Drop)]
+#[derive(Clone, Copy)]
 pub struct Unread {
     pub at: usize,
     pub end: usize,
 }
 
 // A line, if there was one: how many bytes it takes, and what is unread behind it.
-#[derive(Drop)]
+#[derive(Clone, Copy)]
 pub struct Line {
     pub there: bool,
     pub used: usize,
     pub rest: Unread,
 }
 
-// What is unread; where that is nothing, what a read gives, and at the end of the input nothing.
-fn ready(input: &mut [u8], rest: Unread) -> Unread
+// What is unread; where that is nothing, what a read gives, and at the end of the input nothing. A read that fails is an end.
+fn ready<R: Read>(reader: &mut R, input: &mut [u8], rest: Unread) -> Unread
     requires { line_size ≤ length input.old }
     ensures { line_size + result.end ≤ length input.old }
 {
@@ -30,10 +32,10 @@ fn ready(input: &mut [u8], rest: Unread) -> Unread
             return rest;
         }
     }
-    let got = libc::read(0, &mut input[LINE_SIZE..]);
+    let got = reader.read(&mut input[LINE_SIZE..]);
     Unread {
         at: 0,
-        end: io::count(got, &input[LINE_SIZE..]),
+        end: got.unwrap_or(0),
     }
 }
 
@@ -61,7 +63,7 @@ fn ended(there: bool, used: usize, rest: Unread) -> Line
 }
 
 // The next line. A proved loop has to end, so the bytes are counted down.
-fn take(input: &mut [u8], from: Unread) -> Line
+fn take<R: Read>(reader: &mut R, input: &mut [u8], from: Unread) -> Line
     requires { line_size ≤ length input.old }
     ensures { result.used ≤ line_size }
 {
@@ -69,7 +71,7 @@ fn take(input: &mut [u8], from: Unread) -> Line
     let mut used = 0;
     let mut left = u64::MAX;
     while 0 < left {
-        let r = ready(input, rest);
+        let r = ready(reader, input, rest);
         let at = r.at;
         if r.end <= at {
             return ended(0 < used, used, r);
@@ -89,11 +91,11 @@ fn take(input: &mut [u8], from: Unread) -> Line
 }
 
 // The next line, in front of an area; an area that has no room for one gets none.
-pub fn next(input: &mut [u8], from: Unread) -> Line
+pub fn next<R: Read>(reader: &mut R, input: &mut [u8], from: Unread) -> Line
     ensures { result.used ≤ length input.old }
 {
     if input.len() < LINE_SIZE {
         return ended(false, 0, from);
     }
-    take(input, from)
+    take(reader, input, from)
 }

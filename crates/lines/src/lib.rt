@@ -1,3 +1,5 @@
 // The lines that the bench reads and writes.
+#![tactic(auto)]
+
 pub mod input;
 pub mod output;

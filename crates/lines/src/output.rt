@@ -115,9 +115,9 @@ fn row(out: &mut [u8], line: u64, number: u8, parcel: usize, place: u16, packet:
     columns(out, c, place, packet)
 }
 
-// Writes what a line gave: 0 or a refusal, and the parcel made with its packet (0 and nothing where none was).
-pub fn tell(line: u64, number: u8, parcel: usize, place: u16, packet: &[u8]) {
+// Writes what a line gave: 0 or a refusal, and the parcel made with its packet (0 and nothing where none was). A write that fails is passed over.
+pub fn tell(rt: &impl Print, line: u64, number: u8, parcel: usize, place: u16, packet: &[u8]) {
     let mut out = [0u8; 256];
     let k = row(&mut out, line, number, parcel, place, packet);
-    io::write_all(1, &out[0..k]);
+    let _ = rt.write_all(&out[0..k]);
 }

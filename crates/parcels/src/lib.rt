@@ -1,4 +1,6 @@
 // The bench's parcels, side by side in one area: of each where it goes, and its packet. Behind them is how many there are.
+#![tactic(auto)]
+
 ghost use Rattle.std.specs.Prelude.{◌≡◌, ◌+◌, ◌≤◌, ◌<◌, length};
 ghost use Rattle.wire.specs.Packet.{front_size, outlet_size, value_of};
 ghost use Rattle.script.specs.Sizes.{most_text};
@@ -196,7 +198,7 @@ fn made(area: &Area, n: usize) -> usize {
 }
 
 // Writes what a line gave, with the parcel made since there were n.
-pub fn tell(area: &Area, line: u64, number: u8, n: usize) {
+pub fn tell(rt: &impl Print, area: &Area, line: u64, number: u8, n: usize) {
     let p = made(area, n);
-    lines::output::tell(line, number, p, to(area, p), packet_of(area, p));
+    lines::output::tell(rt, line, number, p, to(area, p), packet_of(area, p));
 }
