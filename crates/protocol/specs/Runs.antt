@@ -98,7 +98,20 @@ parcel_of key op answer from to request st v x = packet
     x
 
 abbrev pub parcel : ℕ → ℕ → ℕ → ℕ → ℕ → ℕ → Version → List ℕ → Packet
-parcel op answer from to request st v x = parcel_of the_key op answer from to request st v x
+parcel op answer from to request st v x = packet
+    (record {
+      op = op;
+      answer = answer;
+      from = from;
+      to = to;
+      client = 1;
+      request = request;
+      stamp = stamp st;
+      version = v;
+      length = length x;
+    })
+    the_key
+    x
 
 -- the letters A and B
 abbrev pub value_a : List ℕ
@@ -122,7 +135,7 @@ abbrev pub read_k : ℕ → ℕ → ℕ → ℕ → Packet
 read_k request from to st = parcel op_read query from to request st zero_version []
 
 abbrev pub the_read : ℕ → ℕ → ℕ → Packet
-the_read from to st = read_k 3 from to st
+the_read from to st = parcel op_read query from to 3 st zero_version []
 
 -- ---- document 01's bench example: nodes 1, 2, 3, one write
 

@@ -81,7 +81,7 @@ opened_for false j = Opened.before
 opened_for true j = Opened.after
 
 -- a test of the open change
-when_is : {ch : Change} (o : Joins ch) (f : Joining → Bool) → when_open ch f ≡ f o.join
+pub when_is : {ch : Change} (o : Joins ch) (f : Joining → Bool) → when_open ch f ≡ f o.join
 when_is o f = ap (λ (c : Change). when_open c f) o.change ∙ go o.after o.join
   where
     go : (after : Bool) (j : Joining) → when_open (change_for after j) f ≡ f j
