@@ -1,8 +1,11 @@
--- `relay::over_fields`: what the step sends stands in the outlet.
+-- `relay::over_fields`: a refusal leaves the outlet, and what the step sends stands in it.
 use mathlib.Core.Path.{◌∙◌}
 use Rattle.std.proofs.Common.{sym}
-use Rattle.relay.proofs.Laws.{length_read, length_to, leaves_sent}
+use Rattle.relay.proofs.Laws.{length_read, length_to, leaves_kept, leaves_sent}
 use Rattle.relay.proofs.over_fields.Goals as goal
+
+pub returns-then-number-ne0 : goal.returns-then-number-ne0
+returns-then-number-ne0 c = leaves_kept c.requires c.args.c (c.way-o.ensures c.args.packet.now) (λ z. c.if-number-ne0.true (c.number.ensures ∙ z))
 
 pub send-requires : goal.send-requires
 send-requires c =
