@@ -47,6 +47,7 @@ none_over top (x ∷ l) = leb x top && none_over top l
 first_small : (P : ℕ → Type 0) (top : ℕ) (l : List ℕ) (n : ℕ) → none_over top l ≡ true → First P l n → n ≤ top
 first_small P top (x ∷ l) n h (inl f) = let p = leb-true x top (and_left (leb x top) (none_over top l) h) in let e = f.0 in omega arith
 first_small P top (x ∷ l) n h (inr f) = first_small P top l n (and_right (leb x top) (none_over top l) h) f.1
+first_small P top [] n h f = elim f [ ]
 
 node_member : (r : Chain) (p : Packet) (j : ℕ) (q : Packet) → ChainRules r → RelayCase r p (node j q) → Mem j (members r)
 node_member r p j q c (new_read k) =

@@ -1,4 +1,7 @@
 // The chain record, the fields of a packet and the answers that are enums, as numbers, as they cross to C.
+
+#![tactic(auto)]
+
 ghost use Rattle.std.specs.Prelude.{◌≡◌, ◌+◌, ◌<◌, ◌≤◌, [], ◌∷◌, length, get_or, leb};
 ghost use Rattle.be.specs.Be.{put};
 ghost use Rattle.wire.specs.Packet.{writing_number};

@@ -1,0 +1,13 @@
+-- `numbers::record_of`: the record that the numbers stand for, or the one that breaks the rules.
+use Rattle.std.proofs.Common.{sym, ◌∙◌}
+use Rattle.numbers.proofs.Record.{reflect_stands, or_record, or_none}
+use Rattle.numbers.proofs.record_of.Goals as goal
+
+pub chain_at-requires : goal.chain_at-requires
+chain_at-requires c = (reflect_stands _).0 (sym c.fits.ensures ∙ c.if-fits.true)
+
+pub returns-then-fits : goal.returns-then-fits
+returns-then-fits c = c.chain_at.ensures ∙ sym (or_record _ ((reflect_stands _).0 (sym c.fits.ensures ∙ c.if-fits.true)))
+
+pub returns-else-fits : goal.returns-else-fits
+returns-else-fits c = c.no_record.ensures ∙ sym (or_none _ ((reflect_stands _).1 (sym c.fits.ensures ∙ c.if-fits.false)))
