@@ -1,4 +1,7 @@
 // The controller steps that touch a table: fence, copy, enter.
+
+#![tactic(auto)]
+
 ghost use Rattle.std.specs.Prelude.{◌≡◌, ◌||◌, not, ◌<◌, eqb};
 ghost use Rattle.wire.specs.Numbers.{first_number};
 ghost use Rattle.store.specs.Table.{find, slots, whole_slots, entered_slot};
