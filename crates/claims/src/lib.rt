@@ -1,5 +1,7 @@
 // Each public call as an event of the system over bytes: a function that makes the call, and whose promise is the event.
 // It is proved from the call's own promise alone. None of them is for anyone to call.
+#![tactic(auto)]
+
 ghost use Rattle.claims.specs.Bytes.{activating as activates, cancelling as cancels, removing as removes};
 ghost use Rattle.claims.specs.Events.{StartEvent, BlankEvent, NodeEvent, RelayEvent, ControlEvent, OpenEvent, FenceEvent, CopyEvent, EnterEvent};
 

@@ -1,4 +1,6 @@
 // The register as C sees it: each call is handed on, the record, fields and answers as numbers.
+#![tactic(auto)]
+
 ghost use Rattle.std.specs.Prelude.{◌≡◌};
 ghost use Rattle.wire.specs.Numbers.{number_of};
 ghost use Rattle.store.specs.Table.{BlankGives};
