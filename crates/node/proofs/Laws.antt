@@ -26,7 +26,7 @@ use Rattle.packet.specs.Emit.{emitted}
 use Rattle.packet.proofs.Laws.{emit_done}
 use Rattle.table.specs.Parts.{row_part, state_part, version_part, value_part, slot_stored}
 use Rattle.table.proofs.Tables.{state_table, version_table, value_table, store_table}
-use Rattle.steps.specs.Node.{Sent, sent, reply, absent, answered, stored, taken, at_slot, given, version_for, is_read, node_step, node_call, NodeGives}
+use Rattle.steps.specs.Node.{Sent, reply, absent, answered, stored, taken, at_slot, given, version_for, is_read, node_step, node_call, NodeGives}
 use Rattle.steps.proofs.Node.{call_step}
 use Rattle.steps.proofs.NodeView.{node_view}
 use Rattle.steps.proofs.NodeSound.{Sound, sound_packet, sound_table}
