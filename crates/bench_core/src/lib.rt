@@ -36,7 +36,14 @@ fn step(rec: &mut Record, nodes: &mut Nodes, area: &mut Area, line: &[u8]) -> u8
 }
 
 // A line: what it gives is written.
-fn answer(rt: &impl Print, rec: &mut Record, nodes: &mut Nodes, area: &mut Area, number: u64, line: &[u8]) {
+fn answer(
+    rt: &impl Print,
+    rec: &mut Record,
+    nodes: &mut Nodes,
+    area: &mut Area,
+    number: u64,
+    line: &[u8],
+) {
     let n = parcels::count(area);
     let result = step(rec, nodes, area, line);
     parcels::tell(rt, area, number, result, n);
@@ -50,7 +57,14 @@ fn front(s: &[u8], n: usize) -> &[u8]
 }
 
 // All lines of the input. A proved loop has to end, so there is a last number.
-fn play<R: Read>(rt: &impl Print, reader: &mut R, rec: &mut Record, nodes: &mut Nodes, area: &mut Area, input: &mut Room) {
+fn play<R: Read>(
+    rt: &impl Print,
+    reader: &mut R,
+    rec: &mut Record,
+    nodes: &mut Nodes,
+    area: &mut Area,
+    input: &mut Room,
+) {
     let mut rest = Unread { at: 0, end: 0 };
     let mut number = 0;
     while number < u64::MAX {

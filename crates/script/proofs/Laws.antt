@@ -4,9 +4,10 @@ use mathlib.Core.Path.{◌≡◌, refl, sym, ap, ap₂, ◌∙◌}
 use mathlib.Core.Bool.{Bool, true, false, ◌&&◌, ◌||◌}
 use mathlib.Core.List.{List, [], ◌∷◌}
 use native.Mathlib.Omega.{arith}
+use native.Mathlib.Nat.{zero-add}
 use native.Mathlib.Numerals.{add-one}
 use lib.ListN.{length, get_or, take, drop, length-drop, drop_of_length-le}
-use lib.Seq.{drop-cons, take_all}
+use lib.Seq.{drop-cons, take_all, slice}
 use lib.Dec.{eqb, ltb, leb}
 use borrow.Author.Tests.{ltb-true, ltb-false, lt-ltb, le-ltb, leb-true, eq-eqb, ne_eqb}
 use Rattle.wire.specs.Numbers.{pick, eqs}
@@ -36,7 +37,10 @@ index_fits b (x ∷ l) = go (eqb x b) (index_fits b l)
     go true h = omega arith
     go false h = omega arith
 
--- none of the first i bytes is b: a byte further, at b, and at the end
+pub index_whole : (b : ℕ) (l : List ℕ) → 0 + index_of b (slice 0 (length l) l) ≡ index_of b l
+index_whole b l = zero-add (index_of b (take (length l) l)) ∙ ap (index_of b) (take_all (length l) l (omega arith))
+
+-- none of the first i bytes is a space: a byte further, at b, and at the end
 pub index_turn : (l : List ℕ) (i : ℕ) → i < length l → (get_or l i 0 ≡ 32 → ⊥) → i + index_of 32 (drop i l) ≡ i + 1 + index_of 32 (drop (i + 1) l)
 unfolding index_of
 index_turn l i h n = ap (λ (m : List ℕ). i + index_of 32 m) (left_at l i h) ∙ ap (λ (t : Bool). i + index_after t (index_of 32 (drop (i + 1) l))) (ne_eqb _ _ n) ∙ omega arith
