@@ -14,8 +14,7 @@ use wire::{BROKEN, Reading, SMALL_OUTLET};
 // ---- the node step
 
 // On a table, a packet and an outlet, which do not overlap.
-#[unsafe(no_mangle)]
-pub extern "C" fn register_node_step(table: &mut [u8], packet: &[u8], outlet: &mut [u8]) -> u8
+pub fn register_node_step(table: &mut [u8], packet: &[u8], outlet: &mut [u8]) -> u8
     ensures { NodeGives table.old packet.now outlet.old result table.new outlet.new }
 {
     node::step(table, packet, outlet)
@@ -24,8 +23,7 @@ pub extern "C" fn register_node_step(table: &mut [u8], packet: &[u8], outlet: &m
 // ---- the relay step
 
 // The record as numbers. Dropped is the refusal, sent to the client 65536, and to a node 65536 + its id.
-#[unsafe(no_mangle)]
-pub extern "C" fn register_relay_step(rec: &[u32], packet: &[u8], outlet: &mut [u8]) -> u32
+pub fn register_relay_step(rec: &[u32], packet: &[u8], outlet: &mut [u8]) -> u32
     ensures { RelayLeaves rec.now packet.now outlet.old result outlet.new }
 {
     numbers::outcome(relay::step(numbers::record_of(rec), packet, outlet))
@@ -34,8 +32,7 @@ pub extern "C" fn register_relay_step(rec: &[u32], packet: &[u8], outlet: &mut [
 // ---- the controller steps: the record as numbers, and the tables
 
 // The kind is 1 before, 2 after.
-#[unsafe(no_mangle)]
-pub extern "C" fn register_open(rec: &mut [u32], kind: u8, named: u16, fresh: u16) -> u8
+pub fn register_open(rec: &mut [u32], kind: u8, named: u16, fresh: u16) -> u8
     ensures { OpenLeaves rec.old kind named fresh result rec.new }
 {
     if (kind == 1) | (kind == 2) {
@@ -45,48 +42,42 @@ pub extern "C" fn register_open(rec: &mut [u32], kind: u8, named: u16, fresh: u1
     BROKEN
 }
 
-#[unsafe(no_mangle)]
-pub extern "C" fn register_fence(rec: &mut [u32], table: &mut [u8]) -> u8
+pub fn register_fence(rec: &mut [u32], table: &mut [u8]) -> u8
     ensures { FenceLeaves rec.old table.old result rec.new table.new }
 {
     let r = control::fence(numbers::record_of(rec), table);
     numbers::settle(rec, r)
 }
 
-#[unsafe(no_mangle)]
-pub extern "C" fn register_copy(rec: &mut [u32], slot: u16, named: &[u8], fresh: &mut [u8]) -> u8
+pub fn register_copy(rec: &mut [u32], slot: u16, named: &[u8], fresh: &mut [u8]) -> u8
     ensures { CopyLeaves rec.old slot named.now fresh.old result rec.new fresh.new }
 {
     let r = control::copy(numbers::record_of(rec), slot, named, fresh);
     numbers::settle(rec, r)
 }
 
-#[unsafe(no_mangle)]
-pub extern "C" fn register_activate(rec: &mut [u32]) -> u8
+pub fn register_activate(rec: &mut [u32]) -> u8
     ensures { ActivateLeaves rec.old result rec.new }
 {
     let r = record::activate(numbers::record_of(rec));
     numbers::settle(rec, r)
 }
 
-#[unsafe(no_mangle)]
-pub extern "C" fn register_cancel(rec: &mut [u32]) -> u8
+pub fn register_cancel(rec: &mut [u32]) -> u8
     ensures { CancelLeaves rec.old result rec.new }
 {
     let r = record::cancel(numbers::record_of(rec));
     numbers::settle(rec, r)
 }
 
-#[unsafe(no_mangle)]
-pub extern "C" fn register_remove(rec: &mut [u32], id: u16) -> u8
+pub fn register_remove(rec: &mut [u32], id: u16) -> u8
     ensures { RemoveLeaves rec.old id result rec.new }
 {
     let r = record::remove(numbers::record_of(rec), id);
     numbers::settle(rec, r)
 }
 
-#[unsafe(no_mangle)]
-pub extern "C" fn register_enter(rec: &[u32], table: &mut [u8], id: u16, key: &[u8; 16]) -> u8
+pub fn register_enter(rec: &[u32], table: &mut [u8], id: u16, key: &[u8; 16]) -> u8
     ensures { EnterLeaves rec.now table.old id key.now result table.new }
 {
     control::enter(numbers::record_of(rec), table, id, key)
@@ -95,8 +86,7 @@ pub extern "C" fn register_enter(rec: &[u32], table: &mut [u8], id: u16, key: &[
 // ---- at the start
 
 // The ids in chain order.
-#[unsafe(no_mangle)]
-pub extern "C" fn register_start(rec: &mut [u32], ids: &[u16], count: u16) -> u8
+pub fn register_start(rec: &mut [u32], ids: &[u16], count: u16) -> u8
     ensures { StartLeaves rec.old ids.now count result rec.new }
 {
     if (rec.len() != RECORD_SIZE) | (MOST_NODES < ids.len()) {
@@ -106,8 +96,7 @@ pub extern "C" fn register_start(rec: &mut [u32], ids: &[u16], count: u16) -> u8
     numbers::settle(rec, r)
 }
 
-#[unsafe(no_mangle)]
-pub extern "C" fn register_blank(table: &mut [u8], id: u16, count: u16) -> u8
+pub fn register_blank(table: &mut [u8], id: u16, count: u16) -> u8
     ensures { BlankGives table.old id count result table.new }
 {
     table::blank(table, id, count)
@@ -115,8 +104,7 @@ pub extern "C" fn register_blank(table: &mut [u8], id: u16, count: u16) -> u8
 
 // ---- packets
 
-#[unsafe(no_mangle)]
-pub extern "C" fn register_packet_read(packet: &[u8], fields: &mut [u32]) -> u8
+pub fn register_packet_read(packet: &[u8], fields: &mut [u32]) -> u8
     ensures { ReadLeaves packet.now fields.old result fields.new }
 {
     if fields.len() != FIELDS_SIZE {
@@ -131,8 +119,7 @@ pub extern "C" fn register_packet_read(packet: &[u8], fields: &mut [u32]) -> u8
     }
 }
 
-#[unsafe(no_mangle)]
-pub extern "C" fn register_packet_write(
+pub fn register_packet_write(
     outlet: &mut [u8],
     fields: &[u32],
     key: &[u8],
@@ -146,16 +133,14 @@ pub extern "C" fn register_packet_write(
 // ---- a table alone
 
 // 0 if it keeps the rules, or 1.
-#[unsafe(no_mangle)]
-pub extern "C" fn register_table_good(table: &[u8]) -> u8
+pub fn register_table_good(table: &[u8]) -> u8
     ensures { result ≡ number_of (good_call table.now) }
 {
     if table::good(table) { 0 } else { BROKEN }
 }
 
 // The lowest used slot that has the key, or 65536; the table is not checked.
-#[unsafe(no_mangle)]
-pub extern "C" fn register_find(table: &[u8], key: &[u8]) -> u32
+pub fn register_find(table: &[u8], key: &[u8]) -> u32
     ensures { result ≡ find_number table.now key.now }
 {
     numbers::found(table::find(table, key))
