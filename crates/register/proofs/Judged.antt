@@ -3,7 +3,7 @@ use Prim.Native.Nat.{ℕ}
 use mathlib.Core.Path.{◌≡◌, refl, subst}
 use mathlib.Core.List.{List, [], ◌∷◌}
 use mathlib.Core.Bool.{Bool, true, false, not, ◌||◌}
-use mathlib.Core.Logic.{◌⊎◌, inl, inr, ◌↔◌, ⊎_elim}
+use mathlib.Core.Logic.{inl, inr, ◌↔◌, ⊎_elim}
 use lib.ListN.{length}
 use lib.Dec.{ltb, eqb}
 use Rattle.wire.specs.Numbers.{Out, refuse, ok, guard, test, Case, case, under, Applies, Judged, priority, broken, small_outlet, malformed}
@@ -30,10 +30,12 @@ use Rattle.register.specs.Boundary.{and_then, stand_rows, relay_numbers, relay_n
 under_applies : (W : Type 0) (cs : List Case) (n : ℕ) → W → Applies cs n → Applies (under W cs) n
 under_applies W (c ∷ cs) n w (inl h) = inl (h.0, (w, h.1))
 under_applies W (c ∷ cs) n w (inr h) = inr (under_applies W cs n w h)
+under_applies W [] n w x'' = elim x'' [ ]
 
 applies_under : (W : Type 0) (cs : List Case) (n : ℕ) → Applies (under W cs) n → Applies cs n
 applies_under W (c ∷ cs) n (inl h) = inl (h.0, h.1.1)
 applies_under W (c ∷ cs) n (inr h) = inr (applies_under W cs n h)
+applies_under W [] n x' = elim x' [ ]
 
 -- where it does not apply
 beneath : {A : Type 0} {W : Type 0} (cs : List Case) (o : Out A) → W → Judged cs o → Judged (case broken (W → ⊥) ∷ under W cs) o

@@ -119,12 +119,7 @@ pub fn register_packet_read(packet: &[u8], fields: &mut [u32]) -> u8
     }
 }
 
-pub fn register_packet_write(
-    outlet: &mut [u8],
-    fields: &[u32],
-    key: &[u8],
-    value: &[u8],
-) -> u8
+pub fn register_packet_write(outlet: &mut [u8], fields: &[u32], key: &[u8], value: &[u8]) -> u8
     ensures { WriteLeaves outlet.old fields.now key.now value.now result outlet.new }
 {
     numbers::written(packet::write(outlet, numbers::head_of(fields), key, value))

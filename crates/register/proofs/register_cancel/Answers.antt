@@ -3,4 +3,4 @@ use Rattle.register.proofs.Steps.{cancel_leaves}
 use Rattle.register.proofs.register_cancel.Goals as goal
 
 pub returns : goal.returns
-returns c = cancel_leaves c.record_of.ensures c.settle.ensures c.cancel.ensures
+returns c = cancel_leaves c.record_of.ensures c.settle.ensures c.cancel-r.ensures

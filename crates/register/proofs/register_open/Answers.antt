@@ -2,8 +2,8 @@
 use Rattle.register.proofs.Steps.{open_leaves, open_refused}
 use Rattle.register.proofs.register_open.Goals as goal
 
-pub returns : goal.returns
-returns c = open_leaves c.record_of.ensures c.settle.ensures _ _ _ c.if1.true c.«open».ensures
+pub returns-then-kind : goal.returns-then-kind
+returns-then-kind c = open_leaves c.record_of.ensures c.settle.ensures _ _ _ c.if-kind.true c.open-r.ensures
 
-pub returns-2 : goal.returns-2
-returns-2 c = open_refused _ _ _ _ c.if1.false
+pub returns : goal.returns
+returns c = open_refused _ _ _ _ c.if-kind.false

@@ -3,8 +3,8 @@ use mathlib.Core.Path.{sym, ◌∙◌}
 use Rattle.register.proofs.Steps.{table_good, table_broken}
 use Rattle.register.proofs.register_table_good.Goals as goal
 
-pub returns : goal.returns
-returns c = sym (table_good _ (sym c.good2.ensures ∙ c.if1.true))
+pub returns-then-good : goal.returns-then-good
+returns-then-good c = sym (table_good _ (sym c.good.ensures ∙ c.if-good.true))
 
-pub returns-2 : goal.returns-2
-returns-2 c = sym (table_broken _ (sym c.good2.ensures ∙ c.if1.false))
+pub returns-else-good : goal.returns-else-good
+returns-else-good c = sym (table_broken _ (sym c.good.ensures ∙ c.if-good.false))
