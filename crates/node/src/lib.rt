@@ -177,6 +177,7 @@ fn written(op: u8) -> u8
 }
 
 // A taken write or delete stores content and version; any other answer stores nothing.
+#[tactic(auto, using(crate::proofs::Laws::is_kept))]
 fn store_taken(r: Reply, table: &mut [u8], packet: &[u8], h: Head)
     requires { Comes table.old packet.now h (Sends r) }
     ensures { table.new ≡ write_bytes (sent_by (table_of table.old) (asked h packet.now) r).write table.old }
