@@ -10,7 +10,7 @@ use Rattle.wire.specs.declared.Writing.{Writing}
 use Rattle.packet.specs.Emit.{emitted}
 use Rattle.packet.proofs.read.Reads as read
 use Rattle.packet.proofs.key_of.Reads as key_of
-use Rattle.packet.proofs.value_of.Reads as value_of_lem
+use Rattle.packet.proofs.value_of.Reads as value_of
 use Rattle.packet.proofs.key.Reads as key
 use Rattle.packet.proofs.value.Reads as value
 use Rattle.packet.proofs.emit.Reads as emit
@@ -22,7 +22,7 @@ read_exact = equation
 pub key_of_exact : Exact key_of.Asked key_of.Learnt (λ r e. r.now)
 key_of_exact = equation
 
-pub value_of_exact : Exact value_of_lem.Asked value_of_lem.Learnt (λ r e. r.now)
+pub value_of_exact : Exact value_of.Asked value_of.Learnt (λ r e. r.now)
 value_of_exact = equation
 
 pub key_exact : Exact key.Asked key.Learnt (λ r e. r.now)
