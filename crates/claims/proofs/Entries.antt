@@ -237,6 +237,7 @@ module _ {x : EntryB} (g : EntryGood x) {q : List ℕ} (m : x.made ≡ q ∷ [])
 pub to_trace : (tr : List EntryB) {x : EntryB} {d : Event} → Mem x tr → events_of x.event ≡ d ∷ [] → Mem (entry_as x d) (trace_of tr)
 to_trace (y ∷ l) {x} {d} (here h) e = append_left (trace_of l) (subst (λ (z : EntryB). Mem (entry_as x d) (map (entry_as z) (events_of z.event))) h (subst (λ (es : List Event). Mem (entry_as x d) (map (entry_as x) es)) (sym e) (here refl)))
 to_trace (y ∷ l) (there m) e = append_right (map (entry_as y) (events_of y.event)) (to_trace l m e)
+to_trace [] {x = x} {d = d} x4 e = elim x4 [ ]
 
 -- an entry of the decoded trace, and the one that it comes from
 pub record Comes (tr : List EntryB) (z : Entry) : Type 0 where

@@ -16,7 +16,7 @@ use Rattle.steps.specs.declared.Chain.{Chain}
 use Rattle.steps.specs.declared.Outcome.{Outcome}
 use Rattle.steps.specs.Chain.{start_chain, start_call, start_rows}
 use Rattle.steps.specs.Node.{NodeGives}
-use Rattle.steps.specs.Relay.{node, outcome_of, outcome_number, packet_sent, relay_call, RelayGives}
+use Rattle.steps.specs.Relay.{outcome_of, outcome_number, packet_sent, relay_call, RelayGives}
 use Rattle.steps.specs.Control.{ChainGives, FenceGives, CopyGives, EnterGives, open_step, open_call, open_rows, activate_call, cancel_call, remove_call}
 use Rattle.steps.proofs.ChainRules.{start_judged}
 use Rattle.steps.proofs.Control.{open_judged}
@@ -162,6 +162,7 @@ blank_gives id count some counts few = record { number = ap number_of (sym is); 
   where
     none : (n : ℕ) → Applies (blank_rows (blank_bytes id count) id count) n → ⊥
     none n (inl (e, inl z)) = some z
+    none n (inr x') = elim x' [ ]
     none n (inl (e, inr (inl z))) = counts z
     none n (inl (e, inr (inr (inl z)))) = omega arith
     none n (inl (e, inr (inr (inr z)))) = z (length_blank id count)

@@ -129,6 +129,7 @@ module _ {s : StateB} (z : StartB s) where
     where
       none : (n : ℕ) → Applies (start_numbers_rows (replicate record_size 0) ids z.count) n → ⊥
       none n (inl (e, inl h)) = h refl
+      none n (inr x') = elim x' [ ]
       none n (inl (e, inr (inl h))) = let few = rules.few in let n = ids_length in omega arith
       none n (inl (e, inr (inr h))) = h (subst ChainRules (sym start_is) rules)
 

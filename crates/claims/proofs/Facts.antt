@@ -4,7 +4,7 @@ use mathlib.Core.Path.{◌≡◌, refl, sym, ap, ◌∙◌, subst}
 use mathlib.Core.Bool.{true, false}
 use mathlib.Core.List.Memᴰ.{head as here}
 use mathlib.Core.List.{List, [], ◌∷◌, map, Memᴰ as Mem}
-use mathlib.Core.Logic.{◌⊎◌, inl, inr, ⊎_elim}
+use mathlib.Core.Logic.{inl, inr, ⊎_elim}
 use native.Mathlib.Omega.{arith}
 use lib.ListN.{length}
 use lib.Dec.{eqb}
@@ -16,9 +16,9 @@ use Rattle.store.specs.Table.{Table, table_of, TableRules, id_of, count_of, fenc
 use Rattle.store.proofs.Rules.{length_table}
 use Rattle.steps.specs.declared.Joining.{Joining}
 use Rattle.steps.specs.Chain.{memb, Opened, ChainRules}
-use Rattle.steps.specs.Node.{node_call}
-use Rattle.steps.specs.Relay.{relay_call}
-use Rattle.steps.specs.Control.{open_call, fence_call, copy_call, activate_call, cancel_call, remove_call, enter_call}
+use Rattle.steps.specs.Node.{node_call, node_rows}
+use Rattle.steps.specs.Relay.{relay_call, relay_rows}
+use Rattle.steps.specs.Control.{open_call, open_rows, fence_call, fence_rows, copy_call, copy_rows, activate_call, activate_rows, cancel_call, cancel_rows, remove_call, remove_rows, enter_call, enter_rows}
 use Rattle.steps.proofs.Node.{node_judged}
 use Rattle.steps.proofs.Relay.{relay_judged}
 use Rattle.steps.proofs.Control.{open_judged, fence_judged, copy_judged, activate_judged, cancel_judged, remove_judged, enter_judged}
@@ -69,6 +69,7 @@ no_row : (cs : List Case) (n : ℕ) → memb n (numbers cs) ≡ false → Applie
 unfolding memb
 no_row (c ∷ cs) n h (inl a) = eqb-false c.number n (or_false (eqb c.number n) (memb n (numbers cs)) h).0 (sym a.0)
 no_row (c ∷ cs) n h (inr a) = no_row cs n (or_false (eqb c.number n) (memb n (numbers cs)) h).1 a
+no_row [] n h x'' = elim x'' [ ]
 
 -- a number that was given, other than 0, is that of a row that applies; so where no row has it, it is not given
 given : {A : Type 0} (cs : List Case) (o : Out A) (n : ℕ) → Judged cs o → number_of o ≡ n → (n ≡ 0 → ⊥) → Applies cs n
@@ -77,6 +78,11 @@ given cs (ok a) n j e z = absurd (z (sym e))
 
 not_given : {A : Type 0} (cs : List Case) (o : Out A) (n : ℕ) → Judged cs o → memb n (numbers cs) ≡ false → (n ≡ 0 → ⊥) → number_of o ≡ n → ⊥
 not_given cs o n j h z e = no_row cs n h (given cs o n j e z)
+
+-- the rows behind the first
+abbrev rest : List Case → List Case
+rest [] = []
+rest (c ∷ cs) = cs
 
 -- where no row but the first has 1, and no row but the third 3
 first_row : {A : Type 0} (c : Case) (cs : List Case) (o : Out A) → Judged (c ∷ cs) o → c.number ≡ broken → memb broken (numbers cs) ≡ false → number_of o ≡ broken → c.when
@@ -120,7 +126,7 @@ module _ (s : StateB) (r : ReachB s) where
     _,
     refl,
     record {
-      whole = λ e. first_row _ _ (relay_call s.chain p out) (relay_judged s.chain p out) refl refl e rules;
+      whole = λ e. first_row _ (rest (relay_rows s.chain p out)) (relay_call s.chain p out) (relay_judged s.chain p out) refl refl e rules;
       client = λ e. (p, out, refl);
     },
   )
@@ -128,33 +134,33 @@ module _ (s : StateB) (r : ReachB s) where
     _,
     refl,
     record {
-      whole = λ e. first_row _ _ (relay_call s.chain p out) (relay_judged s.chain p out) refl refl e rules;
-      client = λ e. absurd (third_row _ _ _ _ (relay_call s.chain p out) (relay_judged s.chain p out) refl refl e (g.packets p en).0);
+      whole = λ e. first_row _ (rest (relay_rows s.chain p out)) (relay_call s.chain p out) (relay_judged s.chain p out) refl refl e rules;
+      client = λ e. absurd (third_row _ _ _ (rest (rest (rest (relay_rows s.chain p out)))) (relay_call s.chain p out) (relay_judged s.chain p out) refl refl e (g.packets p en).0);
     },
   )
   number_good (stepping j p out) en = (
     _,
     refl,
     record {
-      whole = λ e. first_row _ _ (node_call (s.table j) p out) (node_judged (s.table j) p out) refl refl e (g.tables j en.0).0;
-      client = λ e. absurd (third_row _ _ _ _ (node_call (s.table j) p out) (node_judged (s.table j) p out) refl refl e (g.packets p en.1).0);
+      whole = λ e. first_row _ (rest (node_rows (s.table j) p out)) (node_call (s.table j) p out) (node_judged (s.table j) p out) refl refl e (g.tables j en.0).0;
+      client = λ e. absurd (third_row _ _ _ (rest (rest (rest (node_rows (s.table j) p out)))) (node_call (s.table j) p out) (node_judged (s.table j) p out) refl refl e (g.packets p en.1).0);
     },
   )
   number_good (opening after named fresh) en =
-      (_, refl, ruled_good _ _ _ (open_call s.chain after named fresh) (open_judged s.chain after named fresh) refl refl refl (λ h. h rules) refl)
+      (_, refl, ruled_good _ _ (rest (open_rows s.chain after named fresh)) (open_call s.chain after named fresh) (open_judged s.chain after named fresh) refl refl refl (λ h. h rules) refl)
   number_good (fencing j) en =
-      (_, refl, ruled_good _ _ _ (fence_call s.chain (s.table j)) (fence_judged s.chain (s.table j)) refl refl refl (⊎_elim (λ h. h rules) (λ h. h (g.tables j en).0)) refl)
+      (_, refl, ruled_good _ _ (rest (fence_rows s.chain (s.table j))) (fence_call s.chain (s.table j)) (fence_judged s.chain (s.table j)) refl refl refl (⊎_elim (λ h. h rules) (λ h. h (g.tables j en).0)) refl)
   number_good (copying i a b) en = (
     _,
     refl,
-    ruled_good _ _ _ (copy_call s.chain i (s.table a) (s.table b)) (copy_judged s.chain i (s.table a) (s.table b)) refl refl refl
+    ruled_good _ _ (rest (copy_rows s.chain i (s.table a) (s.table b))) (copy_call s.chain i (s.table a) (s.table b)) (copy_judged s.chain i (s.table a) (s.table b)) refl refl refl
         (⊎_elim (λ h. h rules) (⊎_elim (λ h. h (g.tables a en.0).0) (λ h. h (g.tables b en.1).0))) refl,
   )
-  number_good activating en = (_, refl, ruled_good _ _ _ (activate_call s.chain) (activate_judged s.chain) refl refl refl (λ h. h rules) refl)
-  number_good cancelling en = (_, refl, ruled_good _ _ _ (cancel_call s.chain) (cancel_judged s.chain) refl refl refl (λ h. h rules) refl)
-  number_good (removing id) en = (_, refl, ruled_good _ _ _ (remove_call s.chain id) (remove_judged s.chain id) refl refl refl (λ h. h rules) refl)
+  number_good activating en = (_, refl, ruled_good _ _ (rest (activate_rows s.chain)) (activate_call s.chain) (activate_judged s.chain) refl refl refl (λ h. h rules) refl)
+  number_good cancelling en = (_, refl, ruled_good _ _ (rest (cancel_rows s.chain)) (cancel_call s.chain) (cancel_judged s.chain) refl refl refl (λ h. h rules) refl)
+  number_good (removing id) en = (_, refl, ruled_good _ _ (rest (remove_rows s.chain id)) (remove_call s.chain id) (remove_judged s.chain id) refl refl refl (λ h. h rules) refl)
   number_good (entering j id key) en =
-      (_, refl, ruled_good _ _ _ (enter_call s.chain (s.table j) id key) (enter_judged s.chain (s.table j) id key) refl refl refl (⊎_elim (λ h. h rules) (λ h. h (g.tables j en.0).0)) refl)
+      (_, refl, ruled_good _ _ (rest (enter_rows s.chain (s.table j) id key)) (enter_call s.chain (s.table j) id key) (enter_judged s.chain (s.table j) id key) refl refl refl (⊎_elim (λ h. h rules) (λ h. h (g.tables j en.0).0)) refl)
   number_good (halting j) en = (_, refl, record { whole = λ e. omega arith; client = λ e. absurd (omega arith) })
 
 pub numbers_good : {s : StateB} → ReachB s → (x : EntryB) → Mem x s.trace → NumberGood x

@@ -1,12 +1,12 @@
 -- What each event over bytes is in the decoded system, and that it leaves a sound record, sound tables and sound packets.
-use Prim.Native.Nat.{ℕ, ◌+◌, ◌^◌, ◌<◌, ◌≤◌}
+use Prim.Native.Nat.{ℕ, ◌^◌, ◌<◌, ◌≤◌}
 use mathlib.Core.Path.{◌≡◌, refl, sym, ap, ap₂, ◌∙◌, subst}
 use mathlib.Core.Bool.{Bool, true, not}
 use mathlib.Core.List.Memᴰ.{append_cases}
 use mathlib.Core.List.Memᴰ.{head as here}
 use mathlib.Core.List.Memᴰ.{tail as there}
 use mathlib.Core.List.{List, [], ◌∷◌, ◌++◌, map, Memᴰ as Mem}
-use mathlib.Core.Logic.{◌⊎◌, ⊎_elim}
+use mathlib.Core.Logic.{⊎_elim}
 use native.Mathlib.Omega.{arith}
 use lib.ListN.{length}
 use borrow.Author.Tests.{lt-ltb, le-ltb}
@@ -33,7 +33,7 @@ use Rattle.steps.proofs.NodeGives.{done_at_0}
 use Rattle.steps.proofs.NodeSound.{Sound}
 use Rattle.steps.proofs.NodeSends.{node_leaves}
 use Rattle.steps.proofs.RelaySends.{SoundChain, relay_leaves}
-use Rattle.protocol.specs.System.{State, Event, from_client, no_packet, at_relay, at_node, opens, fences, copies, activates, cancels, removes, enters, halts, exec, step, relayed, stepped, ruled, ruled_table, upd}
+use Rattle.protocol.specs.System.{State, Event, from_client, no_packet, at_relay, at_node, opens, fences, copies, activates, cancels, removes, enters, halts, exec, relayed, stepped, ruled, ruled_table, upd}
 use Rattle.protocol.proofs.Upd.{upd_case, upd_back}
 use Rattle.claims.specs.Bytes.{IsNode, EventB, asking, relaying, stepping, opening, fencing, copying, activating, cancelling, removing, entering, halting, StateB, holds_version, made_in, after_relay, after_node, after_control, after_control_at, exec_b, EnabledB}
 use Rattle.claims.proofs.Decode.{tables_of, events_of, decode, table_of_lem, tables_put, seen, unseen, roomy_yes, roomy_no, made_none, made_one}

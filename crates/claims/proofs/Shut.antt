@@ -14,7 +14,7 @@ use Rattle.wire.specs.Version.{version, stamp, session, zero_version, next_sessi
 use Rattle.wire.specs.Packet.{head_of, key_of, value_of, packet_of}
 use Rattle.wire.proofs.Versions.{below_irreflexive}
 use Rattle.store.specs.Table.{slot, slot_of, slots, table_of, has, blank_bytes}
-use Rattle.store.specs.Held.{held, wrote, nothing, content_of}
+use Rattle.store.specs.Held.{held, wrote, content_of}
 use Rattle.steps.specs.declared.Change.{Change}
 use Rattle.steps.specs.declared.Change.TheVariants.{Still, Before}
 use Rattle.steps.specs.Chain.{joining, memb, first_of, place_of, insert_at, apart, none_above, joining_ok, chain_ok}
