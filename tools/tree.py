@@ -11,10 +11,10 @@ NAMED = re.compile(r"^ *(?:(?:abbrev|unfoldable) )?pub (?:record |data )?(?!mod 
 
 
 def crates():
-    """The crates, lowest layer first."""
+    """The crates, lowest layer first, a static library and a program like any other."""
     for line in (TOP / "crates.txt").read_text().splitlines():
         if line.strip() and not line.startswith("#"):
-            yield line.split(":")[0].strip()
+            yield re.split(r"[\s:]", line.strip())[0]
 
 
 def texts(crate, room):
