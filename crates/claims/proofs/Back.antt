@@ -273,6 +273,10 @@ every_bytes = happens from_two every_allowed refl every_outcomes_lem
 
 -- ---- a write that is acknowledged
 
+-- what is ready decoded is ready over bytes
+ready_back : {s : StateB} → ReachB s → (k : List ℕ) → ReadyD (decode s) k → Ready s k
+ready_back r k = (ready_both r k).1
+
 -- a client's packet, as bytes
 write_back : (p : Packet) → ClientWriteD p → packet_fits p ≡ true → ClientWrite (bytes_of p)
 unfolding packet_of
@@ -324,4 +328,4 @@ bench_acknowledges = record {
     key = unfold packet_of in ap (λ (q : Packet). q.key) (written (write_a 0 0 0 zero_version) bench_write.fit fits_write).reads
 
     ready : Ready y.state (key_of (bytes_of (write_a 0 0 0 zero_version)))
-    ready = subst (Ready y.state) (sym key) ((ready_both y.reached the_key).1 (subst (λ (d : State). ReadyD d the_key) (sym y.image) bench_ready))
+    ready = subst (Ready y.state) (sym key) (ready_back y.reached the_key (subst (λ (d : State). ReadyD d the_key) (sym y.image) bench_ready))

@@ -13,7 +13,7 @@ use Rattle.wire.specs.Packet.{key_size}
 use Rattle.wire.specs.Version.{top_stamp}
 use Rattle.wire.specs.declared.Stamp.{Stamp}
 use Rattle.wire.proofs.Numbers.{left_refused}
-use Rattle.store.specs.Table.{table_of, is_free_slot, Write, count_of, entered_slot, head_size, row_at, row, row_of, write_bytes, write_table, fence_bytes, fence_table}
+use Rattle.store.specs.Table.{table_of, is_free_slot, Write, TableRules, count_of, entered_slot, head_size, row_at, row, row_of, write_bytes, write_table, fence_bytes, fence_table}
 use Rattle.store.proofs.Find.{FirstAt, free_at}
 use Rattle.store.proofs.Slot.{length_row_of}
 use Rattle.store.proofs.Rules.{rules_fence, length_table}
@@ -21,11 +21,11 @@ use Rattle.store.proofs.Rows.{length_row, row_same, row_other, length_row_put, t
 use Rattle.steps.specs.declared.Change.{Change}
 use Rattle.steps.specs.declared.Chain.{Chain}
 use Rattle.steps.specs.declared.Ruling.{Ruling}
-use Rattle.steps.specs.Chain.{joining, with_change}
+use Rattle.steps.specs.Chain.{ChainRules, joining, with_change}
 use Rattle.steps.specs.Control.{ChainGives, change_for, fence_call, FenceGives, copy_call, copy_bytes, copy_slot, CopyGives, enter_call, EnterGives}
 use Rattle.steps.proofs.ControlViews.{Joins, fence_call_lem, copy_call_lem, enter_call_lem, fence_view, copy_view, enter_view}
 use Rattle.steps.proofs.ControlRules.{fence_keeps}
-use Rattle.steps.proofs.ControlDone.{fence_done}
+use Rattle.steps.proofs.ControlDone.{fence_done as fenced}
 
 -- ---- copy: row i of the new table and no other, and the next slot and nothing else of the record
 
@@ -90,6 +90,12 @@ fence_most : (n : Stamp) (t : List ℕ) → be 4 (fence_bytes n t) 0 ≤ n.0
 unfolding put
 fence_most n t = rw (be_digits 4 n.0 [] (drop (0 + length (digits 4 n.0)) t)) (mod-le n.0 (256 ^ 4))
 
+-- fence is done where the change is open, the tables' id and count are meant, and the fence is not above
+fence_done : (r : Chain) (t : List ℕ) → ChainRules r → TableRules t → (o : Joins r.change)
+    → (table_of t).id ≡ o.join.named → length (table_of t).slots ≡ r.count → (table_of t).fence.0 ≤ r.wiring.0
+    → fence_call r t ≡ ok (with_change r (change_for o.after (joining o.join.named o.join.fresh true o.join.next)))
+fence_done r t k g o id count below = fenced r k o.after o.join o.change t g id count below
+
 -- fencing again changes nothing
 pub fence_again : (r : Chain) (t : List ℕ) (r' : Chain) → fence_call r t ≡ ok r'
     → (fence_call r' (fence_bytes r.wiring t) ≡ ok r') × (fence_bytes r'.wiring (fence_bytes r.wiring t) ≡ fence_bytes r.wiring t)
@@ -103,7 +109,7 @@ fence_again r t r' e =
     let wiring : r'.wiring ≡ r.wiring = ap (λ (c : Chain). c.wiring) v.chain in
     let count : r'.count ≡ r.count = ap (λ (c : Chain). c.count) v.chain in
     let t' = fence_bytes r.wiring t in (
-      fence_done r' (fence_keeps r (table_of t) r' k s) o.after o.join o.change t' (rules_fence r.wiring t g)
+      fence_done r' t' (fence_keeps r (table_of t) r' k s) (rules_fence r.wiring t g) o
           (head_fence r.wiring t room 4 (omega arith) ∙ v.id)
           (length_table t' ∙ head_fence r.wiring t room 6 (omega arith) ∙ sym (length_table t) ∙ v.count ∙ sym count)
           (subst (λ (n : Stamp). be 4 t' 0 ≤ n.0) (sym wiring) (fence_most r.wiring t))
