@@ -102,7 +102,7 @@ activations =
     ∷ ruling (chain 6 3 12 (after9 true 2)) (ok (four (7 ∷ 5 ∷ 9 ∷ 12 ∷ []) 6 3 12 Still))
     ∷ ruling (chain 6 65534 12 (Before (joining 7 12 true 2))) (ok (four (12 ∷ 7 ∷ 5 ∷ 9 ∷ []) 6 65535 12 Still))
     ∷ ruling (alone 6 65535 12 (After (joining 7 12 true 2))) (ok (two (7 ∷ 12 ∷ []) 6 65535 12 Still))
-    ∷ ruling (seven 6 3 8 (After (joining 7 8 true 2))) (ok (full 6 3 8 Still))
+    ∷ ruling (chain_of 7 (1 ∷ 2 ∷ 3 ∷ 4 ∷ 5 ∷ 6 ∷ 7 ∷ 0 ∷ []) 6 3 8 2 (After (joining 7 8 true 2))) (ok (full 6 3 8 Still))
     ∷ ruling (broken_chain Still) (refuse 1)
     -- 11, also before all slots are copied; 14
     ∷ ruling (chain 6 65535 12 (Before (joining 7 12 true 2))) (refuse 11)
@@ -136,7 +136,7 @@ removals =
     ∷ removal (chain 6 3 12 Still) 9 (ok (two (7 ∷ 5 ∷ []) 6 3 12 Still))
     ∷ removal (chain 6 65534 12 Still) 7 (ok (two (5 ∷ 9 ∷ []) 6 65535 12 Still))
     ∷ removal (chain 6 65535 12 Still) 9 (ok (two (7 ∷ 5 ∷ []) 6 65535 12 Still))
-    ∷ removal (full 6 3 8 Still) 8 (ok (seven 6 3 8 Still))
+    ∷ removal (full 6 3 8 Still) 8 (ok (chain_of 7 (1 ∷ 2 ∷ 3 ∷ 4 ∷ 5 ∷ 6 ∷ 7 ∷ 0 ∷ []) 6 3 8 2 Still))
     ∷ removal (two (7 ∷ 5 ∷ []) 6 3 12 Still) 5 (ok (alone 6 3 12 Still))
     ∷ removal (two (5 ∷ 7 ∷ []) 6 3 12 Still) 5 (ok (alone 6 4 12 Still))
     ∷ removal (broken_chain Still) 8 (refuse 1)

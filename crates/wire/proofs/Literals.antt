@@ -24,7 +24,7 @@ abbrev typed_as : List ℕ → List ℕ → List ℕ → List ℕ → List ℕ
 typed_as names start middle value = start ++ names ++ middle ++ key ++ value
 
 abbrev typed : List ℕ → List ℕ → List ℕ → List ℕ
-typed start middle value = typed_as names start middle value
+typed start middle value = start ++ names ++ middle ++ key ++ value
 
 -- the same as fields
 abbrev fields_as : ℕ → ℕ → ℕ → ℕ → ℕ → ℕ → ℕ → Version → ℕ → List ℕ → Packet
@@ -44,7 +44,20 @@ fields_as from to client request n op answer v size value = packet
     value
 
 abbrev fields : ℕ → ℕ → Version → ℕ → List ℕ → Packet
-fields op answer v n value = fields_as 0x1112 0x2122 0x3132 0x41424344 0x51525354 op answer v n value
+fields op answer v n value = packet
+    (record {
+      op = op;
+      answer = answer;
+      from = 0x1112;
+      to = 0x2122;
+      client = 0x3132;
+      request = 0x41424344;
+      stamp = stamp 0x51525354;
+      version = v;
+      length = n;
+    })
+    key
+    value
 
 pub record Sample : Type 0 where
   pub bytes : List ℕ
