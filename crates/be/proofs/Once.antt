@@ -9,8 +9,8 @@ use Rattle.be.proofs.put8.Reads as put8
 use Rattle.be.proofs.put16.Reads as put16
 use Rattle.be.proofs.put32.Reads as put32
 use Rattle.be.proofs.put64.Reads as put64
-use Rattle.be.proofs.put_bytes.Reads as put-bytes
-use Rattle.be.proofs.put_zeros.Reads as put-zeros
+use Rattle.be.proofs.put_bytes.Reads as put_bytes_reads
+use Rattle.be.proofs.put_zeros.Reads as put_zeros_reads
 
 pub read16_once : Once read16.Learnt (λ r e. r)
 read16_once = equation_once
@@ -36,8 +36,8 @@ put32_once = equation_once
 pub put64_once : Once put64.Learnt (λ r e. e.0.now)
 put64_once = equation_once
 
-pub put_bytes_once : Once put-bytes.Learnt (λ r e. e.0.now)
+pub put_bytes_once : Once put_bytes_reads.Learnt (λ r e. e.0.now)
 put_bytes_once = equation_once
 
-pub put_zeros_once : Once put-zeros.Learnt (λ r e. e.0.now)
+pub put_zeros_once : Once put_zeros_reads.Learnt (λ r e. e.0.now)
 put_zeros_once = equation_once

@@ -1,7 +1,7 @@
 -- The bridge: a run of the system over bytes is a run of the decoded system, and its record, tables and packets are sound.
 use Prim.Native.Nat.{ℕ, ◌^◌, ◌<◌}
 use mathlib.Core.Path.{◌≡◌, refl, sym, ap, ◌∙◌, subst}
-use mathlib.Core.List.Memᴰ.{map as mem-map}
+use mathlib.Core.List.Memᴰ.{map as mem_map}
 use mathlib.Core.List.{List, [], map, Memᴰ as Mem}
 use mathlib.Core.Logic.{◌⊎◌, inl, inr}
 use native.Mathlib.Omega.{arith}
@@ -44,14 +44,14 @@ module _ (s : StateB) (g : SoundB s) where
     where
       go : Dec (length out < outlet_size) → Simulates (relaying p out) s
       go (yes h) = hidden (relaying_hidden s g p out h)
-      go (no h) = visible (at_relay (packet_of p)) (mem-map packet_of m) (relaying_becomes s g p out m (omega arith))
+      go (no h) = visible (at_relay (packet_of p)) (mem_map packet_of m) (relaying_becomes s g p out m (omega arith))
 
   sim_stepping : (j : ℕ) (p out : List ℕ) → EnabledB (stepping j p out) s → Simulates (stepping j p out) s
   sim_stepping j p out (i, m, awake) = go (dec_lt (length out) outlet_size)
     where
       go : Dec (length out < outlet_size) → Simulates (stepping j p out) s
       go (yes h) = hidden (stepping_hidden s g j p out i h)
-      go (no h) = visible (at_node j (packet_of p)) (mem-map packet_of m, awake) (stepping_becomes s g j p out i m (omega arith))
+      go (no h) = visible (at_node j (packet_of p)) (mem_map packet_of m, awake) (stepping_becomes s g j p out i m (omega arith))
 
   pub simulate : (e : EventB) → EnabledB e s → Simulates e s
   simulate (asking p out) en = sim_asking p out en

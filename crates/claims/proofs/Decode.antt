@@ -14,7 +14,7 @@ use Rattle.wire.proofs.Numbers.{pick_true, pick_false, pick_case, Reflects, refl
 use Rattle.wire.proofs.RoundTrip.{take_sent}
 use Rattle.store.specs.Table.{Table, table_of, blank_table}
 use Rattle.steps.specs.declared.Chain.{Chain}
-use Rattle.protocol.specs.System.{State, Event, from_client, no_packet, at_relay, at_node, opens, fences, copies, activates, cancels, removes, enters, halts, Entry, entry, upd, becomes as becomesD}
+use Rattle.protocol.specs.System.{State, Event, from_client, no_packet, at_relay, at_node, opens, fences, copies, activates, cancels, removes, enters, halts, Entry, entry, upd, becomes as becomes_d}
 use Rattle.protocol.proofs.Upd.{upd_case, upd_same, upd_other}
 use Rattle.claims.specs.Bytes.{IsNode, EventB, asking, relaying, stepping, opening, fencing, copying, activating, cancelling, removing, entering, halting, EntryB, StateB, first_packet, made_in, becomes}
 
@@ -92,7 +92,7 @@ tables_put count t j b h = fun_ext (λ i. upd_case (λ (x : Table). tables_of co
 -- an event that the decoded system sees
 pub seen : (s : StateB) (r : Chain) (t : ℕ → List ℕ) (h : ℕ → Bool) (q : List (List ℕ)) (e : EventB) (n : ℕ) (v : Version) {d : Event} {T : ℕ → Table} {Q : List Packet} {u : Version}
     → events_of e ≡ d ∷ [] → tables_of r.count t ≡ T → map packet_of q ≡ Q → v ≡ u
-    → decode (becomes s r t h q e n v) ≡ becomesD (decode s) r T h Q (entry d n Q u)
+    → decode (becomes s r t h q e n v) ≡ becomes_d (decode s) r T h Q (entry d n Q u)
 seen s r t h q e n v is f g w =
     let packets = map-append packet_of q s.packets ∙ ap (λ (l : List Packet). l ++ map packet_of s.packets) g in
     let trace : trace_of (becomes s r t h q e n v).trace ≡ _ = λ i. map (λ (d : Event). entry d n (g i) (w i)) (is i) ++ trace_of s.trace in

@@ -26,7 +26,7 @@ use Rattle.store.specs.Held.{Held}
 use Rattle.steps.specs.Node.{Sent, reply, node_step, node_call, node_rows}
 use Rattle.steps.specs.Relay.{Way, relay_call, relay_rows, packet_sent}
 use Rattle.steps.proofs.Node.{node_judged, node_called}
-use Rattle.steps.proofs.NodeView.{Tells, no_key as hasNoKey, has_value, never_written, was_deleted, NodeCase, answered, nokey, took, gave, node_view}
+use Rattle.steps.proofs.NodeView.{Tells, no_key as has_no_key, has_value, never_written, was_deleted, NodeCase, answered, nokey, took, gave, node_view}
 use Rattle.steps.proofs.NodeSends.{node_leaves}
 use Rattle.steps.proofs.Relay.{relay_judged, relay_called}
 use Rattle.protocol.specs.System.{Event, from_client, no_packet, at_relay, at_node, Entry, ghosts_of}
@@ -85,7 +85,7 @@ unfolding reply
 node_keeps t p x e = go (node_view t p x e).case
   where
     told : {h : Held} {answer : ℕ} {value : List ℕ} → Tells h answer value → answer ≡ query → ⊥
-    told (hasNoKey h a n) w = omega arith
+    told (has_no_key h a n) w = omega arith
     told (has_value c h v z k a) w = omega arith
     told (never_written c h v d k a n) w = omega arith
     told (was_deleted c h d k a n) w = omega arith

@@ -4,7 +4,7 @@ use mathlib.Core.Path.{◌≡◌, refl, sym, ap, ◌∙◌, subst, subst₂}
 use mathlib.Core.List.Memᴰ.{append_left}
 use mathlib.Core.List.Memᴰ.{append_right}
 use mathlib.Core.List.Memᴰ.{head as here}
-use mathlib.Core.List.Memᴰ.{map as mem-map}
+use mathlib.Core.List.Memᴰ.{map as mem_map}
 use mathlib.Core.List.Memᴰ.{tail as there}
 use mathlib.Core.List.{List, [], ◌∷◌, ◌++◌, map, append_assoc, Memᴰ as Mem}
 use mathlib.Core.Logic.{⊎_elim}
@@ -19,7 +19,7 @@ use Rattle.store.proofs.Rows.{get_or_slots}
 use Rattle.store.proofs.Rules.{length_table}
 use Rattle.steps.specs.Chain.{members}
 use Rattle.protocol.specs.System.{Event, Entry, Ghost, numbered, acked, shown, ghosts_of, all_ghosts, ghosts}
-use Rattle.protocol.specs.Demand.{StandsFor as StandsForD, in_history as inHistoryD, in_slot as inSlotD, in_packet as inPacketD, Growing, HoldsOrLater, Kept as KeptD, Seen, by_read, by_ack, ReadsRise as ReadsRiseD, Demand3}
+use Rattle.protocol.specs.Demand.{StandsFor as StandsForD, in_history as in_history_d, in_slot as in_slot_d, in_packet as in_packet_d, Growing, HoldsOrLater, Kept as KeptD, Seen, by_read, by_ack, ReadsRise as ReadsRiseD, Demand3}
 use Rattle.protocol.proofs.Trace.{acked_trace, shown_trace, numbered_trace}
 use Rattle.protocol.proofs.Main.{demand, get_or_mem}
 use Rattle.claims.specs.Bytes.{IsNode, EntryB, StateB, holds_version, ReachB}
@@ -111,15 +111,15 @@ module _ {s : StateB} (r : ReachB s) (k : List ℕ) where
   unfolding packet_of
   stands {v} {c} (in_history x j m h) =
       let a = numbers (good x m) h in
-      inHistoryD j x.before (packet_of h.delivered) (append_left s.origin ((numbered_trace (trace_of s.trace) k v c j x.before (packet_of h.delivered)).1 (_, to_trace s.trace m a.seen, a.holds)))
+      in_history_d j x.before (packet_of h.delivered) (append_left s.origin ((numbered_trace (trace_of s.trace) k v c j x.before (packet_of h.delivered)).1 (_, to_trace s.trace m a.seen, a.holds)))
   stands (in_slot j i x n b e ek ev ec h) =
       let is = table_of_lem s.chain.count s.table j n in
-      inSlotD j i x (subst (λ (t : Table). i < length t.slots) (sym is) (subst (λ (n : ℕ). i < n) (sym (length_table (s.table j))) b))
+      in_slot_d j i x (subst (λ (t : Table). i < length t.slots) (sym is) (subst (λ (n : ℕ). i < n) (sym (length_table (s.table j))) b))
       (ap (λ (t : Table). get_or t.slots i free_slot) is ∙ (slot_at (s.table j) i b ∙ e)) ek ev ec h
     where
       slot_at : (t : List ℕ) (i : ℕ) → i < count_of t → get_or (table_of t).slots i free_slot ≡ slot_of (row t i)
       slot_at t i b = unfold table_of in get_or_slots (count_of t) t i free_slot b
-  stands (in_packet p m ek ev ec h) = inPacketD (packet_of p) (mem-map packet_of m) ek ev ec h
+  stands (in_packet p m ek ev ec h) = in_packet_d (packet_of p) (mem_map packet_of m) ek ev ec h
 
   -- a numbering of the decoded history is in the trace
   entry_of : {v : Version} {c : Content} → (j : ℕ) × (before : Version) × (origin : Packet) × Mem (numbered k v c j before origin) (ghosts (decode s)) → (x : EntryB) × (j : ℕ) × Mem x s.trace × Numbers x j k v c

@@ -27,7 +27,7 @@ use Rattle.steps.specs.Relay.{Way, relay_call, relay_rows, packet_sent}
 use Rattle.steps.specs.Control.{on_record, open_step, open_call, fence_step, fence_call, copy_step, copy_call, copy_slot, copy_bytes, activate_step, activate_call, cancel_step, cancel_call, remove_step, remove_call, enter_step, enter_call}
 use Rattle.steps.proofs.ChainRules.{reflect_chain}
 use Rattle.steps.proofs.ControlViews.{open_view}
-use Rattle.steps.proofs.Node.{node_judged, call_step as node-step}
+use Rattle.steps.proofs.Node.{node_judged, call_step as node_call_step}
 use Rattle.steps.proofs.Relay.{relay_judged, call_step}
 use Rattle.steps.proofs.NodeGives.{done_at_0}
 use Rattle.steps.proofs.NodeSound.{Sound}
@@ -230,7 +230,7 @@ module _ (s : StateB) (g : SoundB s) where
   unfolding exec_b exec
   stepping_becomes j p out i m h =
       let (f, b) = g.packets p m in
-      let step = node-step (s.table j) p out (g.tables j i).0 h f ∙ ap (λ (t : Table). node_step t (packet_of p)) (sym (table_of_lem s.chain.count s.table j i)) in
+      let step = node_call_step (s.table j) p out (g.tables j i).0 h f ∙ ap (λ (t : Table). node_step t (packet_of p)) (sym (table_of_lem s.chain.count s.table j i)) in
       likewise (ap (stepped j (packet_of p) (decode s)) step) (node_becomes s g j p out i (roomy_yes out _ h) b _ refl)
 
   pub stepping_hidden : (j : ℕ) (p out : List ℕ) → IsNode j → length out < outlet_size → Becomes (exec_b (stepping j p out) s) (decode s)

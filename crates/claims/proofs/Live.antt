@@ -4,7 +4,7 @@ use mathlib.Core.Path.{◌≡◌, refl, sym, ap, ap₂, ◌∙◌, subst}
 use mathlib.Core.Bool.{false}
 use mathlib.Core.List.Memᴰ.{append_left}
 use mathlib.Core.List.Memᴰ.{head as here}
-use mathlib.Core.List.Memᴰ.{map as mem-map}
+use mathlib.Core.List.Memᴰ.{map as mem_map}
 use mathlib.Core.List.Memᴰ.{tail as there}
 use mathlib.Core.List.{List, [], ◌∷◌, ◌++◌, map, append_cancel_right, Memᴰ as Mem}
 use mathlib.Core.Logic.{◌⊎◌, inl, inr, ◌↔◌}
@@ -81,7 +81,7 @@ makes_node {s} r j p m {q} h = go (node_step ((decode s).table j) (packet_of p))
         let (f, b) = (bridge r).0.packets p m in
         let size = f.size in
         let fits = (ranges p b (omega arith)).to in
-        let some = (v.packets (packet_of p) (mem-map packet_of m)).asked a.relayed a.asks in
+        let some = (v.packets (packet_of p) (mem_map packet_of m)).asked a.relayed a.asks in
         (omega arith, omega arith)
 
     go : (o : Out Sent) → node_step ((decode s).table j) (packet_of p) ≡ o → made_by (λ x. x.packet) o ++ (decode s).packets ≡ q ∷ (decode s).packets → IsNode j
@@ -219,9 +219,15 @@ module _ {s : StateB} {p : List ℕ} (r : ReachB s) (c : ClientWrite p) (ready :
   sound : SoundB s
   sound = (bridge r).0
 
-  walks : Acknowledged (decode s) (packet_of p)
+  write : ClientWriteD (packet_of p)
+  write = write_decoded c
+
+  prepared : ReadyD (decode s) (packet_of p).key
   unfolding packet_of
-  walks = acknowledged (decode s) (packet_of p) (bridge r).1 (write_decoded c) ((ready_both r (key_of p)).0 ready)
+  prepared = (ready_both r (key_of p)).0 ready
+
+  walks : Acknowledged (decode s) (packet_of p)
+  walks = acknowledged (decode s) (packet_of p) (bridge r).1 write prepared
 
   -- the end of the way, of a packet that the relay made
   module _ (first : List ℕ) (whole : Formed first × Bytes first) (relayed : packet_of first ≡ walks.first) where

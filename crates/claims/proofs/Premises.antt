@@ -18,11 +18,11 @@ use Rattle.steps.specs.declared.Change.TheVariants.{Still}
 use Rattle.steps.specs.Chain.{members, First}
 use Rattle.steps.specs.Node.{Sent, node_step, node_call}
 use Rattle.steps.specs.Relay.{Way, node, relay_step, relay_call, packet_sent}
-use Rattle.steps.proofs.Node.{call_step as node-step}
+use Rattle.steps.proofs.Node.{call_step as node_call_step}
 use Rattle.steps.proofs.Relay.{call_step, relay_called}
 use Rattle.steps.proofs.RelaySends.{relay_leaves}
 use Rattle.steps.proofs.NodeSound.{Sound}
-use Rattle.protocol.proofs.Premises.{HasKey as HasKeyD, makes_one as makes-oneD, goes_first as goes-firstD, one_or_11 as one-or-11D, ready_is as ready-isD}
+use Rattle.protocol.proofs.Premises.{HasKey as HasKeyD, makes_one as makes_one_d, goes_first as goes_first_d, one_or_11 as one_or_11_d, ready_is as ready_is_d}
 use Rattle.claims.specs.Bytes.{asking, StateB, made_in, exec_b, ReachB}
 use Rattle.claims.specs.Headline.{ClientWrite, Ready, AcknowledgedB}
 use Rattle.claims.proofs.Decode.{decode, made_one}
@@ -98,7 +98,7 @@ module _ {s : StateB} {p : List ℕ} (r : ReachB s) (c : ClientWrite p)
   -- the relay makes a packet of the write for the first node
   pub makes_one : (out : List ℕ) → 168 ≤ length out → (j : ℕ) × (q : Packet) × First j (members s.chain) × (relay_call s.chain p out ≡ ok (node j q))
   makes_one out room =
-      let (j, q, first, sent) = makes-oneD (bridge r).1 (write_decoded c) awake still known_d in
+      let (j, q, first, sent) = makes_one_d (bridge r).1 (write_decoded c) awake still known_d in
       (j, q, first, call_step s.chain p out g.chain.rules room c.formed ∙ sent)
 
   -- whichever packet and node these are
@@ -111,7 +111,7 @@ module _ {s : StateB} {p : List ℕ} (r : ReachB s) (c : ClientWrite p)
 
     -- it is the first node
     pub goes_first : First j (members s.chain)
-    goes_first = goes-firstD (bridge r).1 (write_decoded c) awake still known_d j q step
+    goes_first = goes_first_d (bridge r).1 (write_decoded c) awake still known_d j q step
 
     -- its bytes are what is made
     pub made_bytes : (exec_b (asking p out) s).packets ≡ bytes_of q ∷ s.packets
@@ -126,18 +126,18 @@ module _ {s : StateB} {p : List ℕ} (r : ReachB s) (c : ClientWrite p)
       called =
           let (m, e) = goes_first in
           let in_chain : Mem j (members s.chain) = subst (Mem j) (sym e) (here refl) in
-          node-step (s.table j) (bytes_of q) out' (g.tables j (member_node g j in_chain)).0 room (formed_bytes q whole.fit whole.ranges)
+          node_call_step (s.table j) (bytes_of q) out' (g.tables j (member_node g j in_chain)).0 room (formed_bytes q whole.fit whole.ranges)
           ∙ (ap (λ (t : Table). node_step t (packet_of (bytes_of q))) (sym (node_table g j in_chain)) ∙ ap (node_step ((decode s).table j)) (read_write q whole.fit whole.ranges))
 
       -- the node takes it, or refuses with 11: there is no other refusal
       pub one_or_11 : (node_call (s.table j) (bytes_of q) out' ≡ refuse 11) ⊎ ((y : Sent) × (node_call (s.table j) (bytes_of q) out' ≡ ok y))
-      one_or_11 = subst (λ (o : Out Sent). (o ≡ refuse 11) ⊎ ((y : Sent) × (o ≡ ok y))) (sym called) (one-or-11D (bridge r).1 (write_decoded c) awake still known_d j q step)
+      one_or_11 = subst (λ (o : Out Sent). (o ≡ refuse 11) ⊎ ((y : Sent) × (o ≡ ok y))) (sym called) (one_or_11_d (bridge r).1 (write_decoded c) awake still known_d j q step)
 
       -- and the state is ready if and only if it does not refuse with 11
       pub ready_is : Ready s (key_of p) ↔ (node_call (s.table j) (bytes_of q) out' ≡ refuse 11 → ⊥)
       unfolding packet_of
       ready_is =
-          let (to, from) = ready-isD (bridge r).1 (write_decoded c) awake still known_d j q step in
+          let (to, from) = ready_is_d (bridge r).1 (write_decoded c) awake still known_d j q step in
           let (toD, fromD) = ready_both r (key_of p) in
           (λ y e. to (toD y) (sym called ∙ e), λ n. fromD (from (λ e. n (called ∙ e))))
 

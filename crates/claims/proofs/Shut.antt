@@ -21,7 +21,7 @@ use Rattle.steps.specs.Chain.{joining, memb, first_of, place_of, insert_at, apar
 use Rattle.steps.specs.Control.{activated, activate_step, activate_call}
 use Rattle.protocol.specs.System.{carried}
 use Rattle.protocol.specs.Runs.{the_key, value_a, value_b}
-use Rattle.protocol.proofs.Shut.{not_over, at_least, apart as apart-values, valueless}
+use Rattle.protocol.proofs.Shut.{not_over, at_least, apart as apart_values, valueless}
 use Rattle.claims.specs.Bytes.{relaying, stepping, activating, EntryB, StateB, exec_b, stay_b, more_b}
 use Rattle.claims.specs.Headline.{Acks, Shows, Numbers, in_history, in_slot, in_packet, Demand3B}
 
@@ -146,21 +146,21 @@ order_shut d = not_over (d.order 0 1 (omega arith) (omega arith))
 pub slots_shut : Demand3B (state_of Still (tables (holding 1 65) (holding 2 66)) [] []) the_key → ⊥
 unfolding computing
 slots_shut d =
-    apart-values (d.one_content (version 1 1) (wrote value_a) (wrote value_b)
+    apart_values (d.one_content (version 1 1) (wrote value_a) (wrote value_b)
     (in_slot 1 0 (slot the_key 2 (version 1 1) value_a) (omega arith, omega arith) (omega arith) refl refl refl refl valueless)
     (in_slot 2 0 (slot the_key 2 (version 1 1) value_b) (omega arith, omega arith) (omega arith) refl refl refl refl valueless))
 
 pub slot_packet_shut : Demand3B (state_of Still both_a (packet_at 2 0 1 1 value_b ∷ []) []) the_key → ⊥
 unfolding computing
 slot_packet_shut d =
-    apart-values (d.one_content (version 1 1) (wrote value_a) (wrote value_b)
+    apart_values (d.one_content (version 1 1) (wrote value_a) (wrote value_b)
     (in_slot 1 0 (slot the_key 2 (version 1 1) value_a) (omega arith, omega arith) (omega arith) refl refl refl refl valueless)
     (in_packet (packet_at 2 0 1 1 value_b) (here refl) refl refl refl valueless))
 
 pub history_packet_shut : Demand3B (state_of Still both_a (packet_at 2 0 1 1 value_b ∷ []) (gave_a ∷ [])) the_key → ⊥
 unfolding computing
 history_packet_shut d =
-    apart-values (d.one_content (version 1 1) (wrote value_a) (wrote value_b)
+    apart_values (d.one_content (version 1 1) (wrote value_a) (wrote value_b)
     (in_history gave_a 1 (here refl) gives)
     (in_packet (packet_at 2 0 1 1 value_b) (here refl) refl refl refl valueless))
 

@@ -28,52 +28,52 @@ use Rattle.steps.proofs.Relay.{relay_judged}
 use Rattle.steps.proofs.RelaySends.{relay_once}
 use Rattle.steps.proofs.Control.{open_judged, fence_judged, copy_judged, activate_judged, cancel_judged, remove_judged, enter_judged}
 use Rattle.steps.proofs.ControlLaws.{chain_once, fence_once, copy_once, enter_once}
-use Rattle.node.proofs.step.Statement.{statement as node-promise}
-use Rattle.node.proofs.step.Met.{met as node-met}
-use Rattle.relay.proofs.step.Statement.{statement as relay-promise}
-use Rattle.relay.proofs.step.Met.{met as relay-met}
-use Rattle.record.proofs.open.Statement.{statement as open-promise}
-use Rattle.record.proofs.open.Met.{met as open-met}
-use Rattle.control.proofs.fence.Statement.{statement as fence-promise}
-use Rattle.control.proofs.fence.Met.{met as fence-met}
-use Rattle.control.proofs.copy.Statement.{statement as copy-promise}
+use Rattle.node.proofs.step.Statement.{statement as node_promise}
+use Rattle.node.proofs.step.Met.{met as node_met}
+use Rattle.relay.proofs.step.Statement.{statement as relay_promise}
+use Rattle.relay.proofs.step.Met.{met as relay_met}
+use Rattle.record.proofs.open.Statement.{statement as open_promise}
+use Rattle.record.proofs.open.Met.{met as open_met}
+use Rattle.control.proofs.fence.Statement.{statement as fence_promise}
+use Rattle.control.proofs.fence.Met.{met as fence_met}
+use Rattle.control.proofs.copy.Statement.{statement as copy_promise}
 use Rattle.control.proofs.copy.Met.{met as copy_met}
-use Rattle.record.proofs.activate.Statement.{statement as activate-promise}
-use Rattle.record.proofs.activate.Met.{met as activate-met}
-use Rattle.record.proofs.cancel.Statement.{statement as cancel-promise}
-use Rattle.record.proofs.cancel.Met.{met as cancel-met}
-use Rattle.record.proofs.remove.Statement.{statement as remove-promise}
-use Rattle.record.proofs.remove.Met.{met as remove-met}
-use Rattle.control.proofs.enter.Statement.{statement as enter-promise}
-use Rattle.control.proofs.enter.Met.{met as enter-met}
-use Rattle.chain.proofs.start.Statement.{statement as start-promise}
-use Rattle.chain.proofs.start.Met.{met as start-met}
-use Rattle.table.proofs.blank.Statement.{statement as blank-promise}
-use Rattle.table.proofs.blank.Met.{met as blank-met}
+use Rattle.record.proofs.activate.Statement.{statement as activate_promise}
+use Rattle.record.proofs.activate.Met.{met as activate_met}
+use Rattle.record.proofs.cancel.Statement.{statement as cancel_promise}
+use Rattle.record.proofs.cancel.Met.{met as cancel_met}
+use Rattle.record.proofs.remove.Statement.{statement as remove_promise}
+use Rattle.record.proofs.remove.Met.{met as remove_met}
+use Rattle.control.proofs.enter.Statement.{statement as enter_promise}
+use Rattle.control.proofs.enter.Met.{met as enter_met}
+use Rattle.chain.proofs.start.Statement.{statement as start_promise}
+use Rattle.chain.proofs.start.Met.{met as start_met}
+use Rattle.table.proofs.blank.Statement.{statement as blank_promise}
+use Rattle.table.proofs.blank.Met.{met as blank_met}
 use Rattle.register.specs.Boundary.{Leaves}
 use Rattle.register.proofs.Once.{once}
-use Rattle.register.proofs.register_node_step.Statement.{statement as register-node-step-promise}
-use Rattle.register.proofs.register_node_step.Met.{met as register-node-step-met}
-use Rattle.register.proofs.register_relay_step.Statement.{statement as register-relay-step-promise}
-use Rattle.register.proofs.register_relay_step.Met.{met as register-relay-step-met}
-use Rattle.register.proofs.register_open.Statement.{statement as register-open-promise}
-use Rattle.register.proofs.register_open.Met.{met as register-open-met}
-use Rattle.register.proofs.register_fence.Statement.{statement as register-fence-promise}
-use Rattle.register.proofs.register_fence.Met.{met as register-fence-met}
-use Rattle.register.proofs.register_copy.Statement.{statement as register-copy-promise}
-use Rattle.register.proofs.register_copy.Met.{met as register-copy-met}
-use Rattle.register.proofs.register_activate.Statement.{statement as register-activate-promise}
-use Rattle.register.proofs.register_activate.Met.{met as register-activate-met}
-use Rattle.register.proofs.register_cancel.Statement.{statement as register-cancel-promise}
-use Rattle.register.proofs.register_cancel.Met.{met as register-cancel-met}
-use Rattle.register.proofs.register_remove.Statement.{statement as register-remove-promise}
-use Rattle.register.proofs.register_remove.Met.{met as register-remove-met}
-use Rattle.register.proofs.register_enter.Statement.{statement as register-enter-promise}
-use Rattle.register.proofs.register_enter.Met.{met as register-enter-met}
-use Rattle.register.proofs.register_start.Statement.{statement as register-start-promise}
-use Rattle.register.proofs.register_start.Met.{met as register-start-met}
-use Rattle.register.proofs.register_blank.Statement.{statement as register-blank-promise}
-use Rattle.register.proofs.register_blank.Met.{met as register-blank-met}
+use Rattle.register.proofs.register_node_step.Statement.{statement as register_node_step_promise}
+use Rattle.register.proofs.register_node_step.Met.{met as register_node_step_met}
+use Rattle.register.proofs.register_relay_step.Statement.{statement as register_relay_step_promise}
+use Rattle.register.proofs.register_relay_step.Met.{met as register_relay_step_met}
+use Rattle.register.proofs.register_open.Statement.{statement as register_open_promise}
+use Rattle.register.proofs.register_open.Met.{met as register_open_met}
+use Rattle.register.proofs.register_fence.Statement.{statement as register_fence_promise}
+use Rattle.register.proofs.register_fence.Met.{met as register_fence_met}
+use Rattle.register.proofs.register_copy.Statement.{statement as register_copy_promise}
+use Rattle.register.proofs.register_copy.Met.{met as register_copy_met}
+use Rattle.register.proofs.register_activate.Statement.{statement as register_activate_promise}
+use Rattle.register.proofs.register_activate.Met.{met as register_activate_met}
+use Rattle.register.proofs.register_cancel.Statement.{statement as register_cancel_promise}
+use Rattle.register.proofs.register_cancel.Met.{met as register_cancel_met}
+use Rattle.register.proofs.register_remove.Statement.{statement as register_remove_promise}
+use Rattle.register.proofs.register_remove.Met.{met as register_remove_met}
+use Rattle.register.proofs.register_enter.Statement.{statement as register_enter_promise}
+use Rattle.register.proofs.register_enter.Met.{met as register_enter_met}
+use Rattle.register.proofs.register_start.Statement.{statement as register_start_promise}
+use Rattle.register.proofs.register_start.Met.{met as register_start_met}
+use Rattle.register.proofs.register_blank.Statement.{statement as register_blank_promise}
+use Rattle.register.proofs.register_blank.Met.{met as register_blank_met}
 use Rattle.numbers.specs.Record.{record_of}
 use Rattle.protocol.specs.System.{numbered, acked, shown, ghosts, Reach, Run}
 use Rattle.protocol.specs.Runs.{write_a, bench_start, bench_events, bench_outcomes, incident_start, incident_events, incident_outcomes, two_start, head_events, head_outcomes, tail_events, tail_outcomes, delete_events, delete_outcomes, every_events, every_outcomes}
@@ -93,28 +93,28 @@ use Rattle.claims.proofs.Live.{acknowledged_b}
 use Rattle.claims.proofs.Facts.{Rules, rules_kept}
 use Rattle.claims.proofs.Exports.{export_caller_is}
 use Rattle.claims.proofs.ExportRuns.{reaches_exports, runs_exports}
-use Rattle.claims.proofs.stepping.Statement.{statement as stepping-promise}
-use Rattle.claims.proofs.stepping.Met.{met as stepping-met}
-use Rattle.claims.proofs.relaying.Statement.{statement as relaying-promise}
-use Rattle.claims.proofs.relaying.Met.{met as relaying-met}
-use Rattle.claims.proofs.opening.Statement.{statement as opening-promise}
-use Rattle.claims.proofs.opening.Met.{met as opening-met}
-use Rattle.claims.proofs.fencing.Statement.{statement as fencing-promise}
-use Rattle.claims.proofs.fencing.Met.{met as fencing-met}
-use Rattle.claims.proofs.copying.Statement.{statement as copying-promise}
-use Rattle.claims.proofs.copying.Met.{met as copying-met}
-use Rattle.claims.proofs.activating.Statement.{statement as activating-promise}
-use Rattle.claims.proofs.activating.Met.{met as activating-met}
-use Rattle.claims.proofs.cancelling.Statement.{statement as cancelling-promise}
-use Rattle.claims.proofs.cancelling.Met.{met as cancelling-met}
-use Rattle.claims.proofs.removing.Statement.{statement as removing-promise}
-use Rattle.claims.proofs.removing.Met.{met as removing-met}
-use Rattle.claims.proofs.entering.Statement.{statement as entering-promise}
-use Rattle.claims.proofs.entering.Met.{met as entering-met}
-use Rattle.claims.proofs.starting.Statement.{statement as starting-promise}
-use Rattle.claims.proofs.starting.Met.{met as starting-met}
-use Rattle.claims.proofs.blanking.Statement.{statement as blanking-promise}
-use Rattle.claims.proofs.blanking.Met.{met as blanking-met}
+use Rattle.claims.proofs.stepping.Statement.{statement as stepping_promise}
+use Rattle.claims.proofs.stepping.Met.{met as stepping_met}
+use Rattle.claims.proofs.relaying.Statement.{statement as relaying_promise}
+use Rattle.claims.proofs.relaying.Met.{met as relaying_met}
+use Rattle.claims.proofs.opening.Statement.{statement as opening_promise}
+use Rattle.claims.proofs.opening.Met.{met as opening_met}
+use Rattle.claims.proofs.fencing.Statement.{statement as fencing_promise}
+use Rattle.claims.proofs.fencing.Met.{met as fencing_met}
+use Rattle.claims.proofs.copying.Statement.{statement as copying_promise}
+use Rattle.claims.proofs.copying.Met.{met as copying_met}
+use Rattle.claims.proofs.activating.Statement.{statement as activating_promise}
+use Rattle.claims.proofs.activating.Met.{met as activating_met}
+use Rattle.claims.proofs.cancelling.Statement.{statement as cancelling_promise}
+use Rattle.claims.proofs.cancelling.Met.{met as cancelling_met}
+use Rattle.claims.proofs.removing.Statement.{statement as removing_promise}
+use Rattle.claims.proofs.removing.Met.{met as removing_met}
+use Rattle.claims.proofs.entering.Statement.{statement as entering_promise}
+use Rattle.claims.proofs.entering.Met.{met as entering_met}
+use Rattle.claims.proofs.starting.Statement.{statement as starting_promise}
+use Rattle.claims.proofs.starting.Met.{met as starting_met}
+use Rattle.claims.proofs.blanking.Statement.{statement as blanking_promise}
+use Rattle.claims.proofs.blanking.Met.{met as blanking_met}
 
 -- ---- 1. The definitions are document 01
 
@@ -183,110 +183,110 @@ blank_determined = blank_once
 -- ---- 3. The code keeps its promises: the theorem of each function; the promise stands over its body
 
 -- node::step
-pub node_code : {M : Type 1} → node-promise M
-node_code = node-met
+pub node_code : {M : Type 1} → node_promise M
+node_code = node_met
 
 -- relay::step
-pub relay_code_lem : {M : Type 1} → relay-promise M
-relay_code_lem = relay-met
+pub relay_code_lem : {M : Type 1} → relay_promise M
+relay_code_lem = relay_met
 
 -- record::open
-pub open_code : {M : Type 1} → open-promise M
-open_code = open-met
+pub open_code : {M : Type 1} → open_promise M
+open_code = open_met
 
 -- control::fence
-pub fence_code : {M : Type 1} → fence-promise M
-fence_code = fence-met
+pub fence_code : {M : Type 1} → fence_promise M
+fence_code = fence_met
 
 -- control::copy
-pub copy_code : {M : Type 1} → copy-promise M
+pub copy_code : {M : Type 1} → copy_promise M
 copy_code = copy_met
 
 -- record::activate
-pub activate_code : {M : Type 1} → activate-promise M
-activate_code = activate-met
+pub activate_code : {M : Type 1} → activate_promise M
+activate_code = activate_met
 
 -- record::cancel
-pub cancel_code : {M : Type 1} → cancel-promise M
-cancel_code = cancel-met
+pub cancel_code : {M : Type 1} → cancel_promise M
+cancel_code = cancel_met
 
 -- record::remove
-pub remove_code : {M : Type 1} → remove-promise M
-remove_code = remove-met
+pub remove_code : {M : Type 1} → remove_promise M
+remove_code = remove_met
 
 -- control::enter
-pub enter_code : {M : Type 1} → enter-promise M
-enter_code = enter-met
+pub enter_code : {M : Type 1} → enter_promise M
+enter_code = enter_met
 
 -- chain::start
-pub start_code : {M : Type 1} → start-promise M
-start_code = start-met
+pub start_code : {M : Type 1} → start_promise M
+start_code = start_met
 
 -- table::blank
-pub blank_code : {M : Type 1} → blank-promise M
-blank_code = blank-met
+pub blank_code : {M : Type 1} → blank_promise M
+blank_code = blank_met
 
 -- ---- 4. A call is an event of the system over bytes: the theorem of the function of this crate that makes the call, and the law from promise to event
 
-pub node_call_lem : {M : Type 1} → stepping-promise M
-node_call_lem = stepping-met
+pub node_call_lem : {M : Type 1} → stepping_promise M
+node_call_lem = stepping_met
 
 pub node_is : {t p out : List ℕ} {n : ℕ} {t' out' : List ℕ} → NodeGives t p out n t' out' → NodeEvent t p out n t' out'
 node_is = node_event
 
-pub relay_call_lem : {M : Type 1} → relaying-promise M
-relay_call_lem = relaying-met
+pub relay_call_lem : {M : Type 1} → relaying_promise M
+relay_call_lem = relaying_met
 
 pub relay_is : {r : Chain} {p out : List ℕ} {o : Outcome} {out' : List ℕ} → RelayGives r p out o out' → RelayEvent r p out o out'
 relay_is = relay_event
 
-pub open_call_lem : {M : Type 1} → opening-promise M
-open_call_lem = opening-met
+pub open_call_lem : {M : Type 1} → opening_promise M
+open_call_lem = opening_met
 
 pub open_is : {r : Chain} {after : Bool} {named fresh n : ℕ} {r' : Chain} → ChainGives r (open_call r after named fresh) n r' → OpenEvent r after named fresh n r'
 open_is = open_event
 
-pub fence_call_lem : {M : Type 1} → fencing-promise M
-fence_call_lem = fencing-met
+pub fence_call_lem : {M : Type 1} → fencing_promise M
+fence_call_lem = fencing_met
 
 pub fence_is : {r : Chain} {t : List ℕ} {n : ℕ} {r' : Chain} {t' : List ℕ} → FenceGives r t n r' t' → FenceEvent r t n r' t'
 fence_is = fence_event
 
-pub copy_call_lem : {M : Type 1} → copying-promise M
-copy_call_lem = copying-met
+pub copy_call_lem : {M : Type 1} → copying_promise M
+copy_call_lem = copying_met
 
 pub copy_is : {r : Chain} {i : ℕ} {named fresh : List ℕ} {n : ℕ} {r' : Chain} {fresh' : List ℕ} → CopyGives r i named fresh n r' fresh' → CopyEvent r i named fresh n r' fresh'
 copy_is = copy_event
 
-pub activate_call_lem : {M : Type 1} → activating-promise M
-activate_call_lem = activating-met
+pub activate_call_lem : {M : Type 1} → activating_promise M
+activate_call_lem = activating_met
 
 pub activate_is : {r : Chain} {n : ℕ} {r' : Chain} → ChainGives r (activate_call r) n r' → ControlEvent activates r n r'
 activate_is = activate_event
 
-pub cancel_call_lem : {M : Type 1} → cancelling-promise M
-cancel_call_lem = cancelling-met
+pub cancel_call_lem : {M : Type 1} → cancelling_promise M
+cancel_call_lem = cancelling_met
 
 pub cancel_is : {r : Chain} {n : ℕ} {r' : Chain} → ChainGives r (cancel_call r) n r' → ControlEvent cancels r n r'
 cancel_is = cancel_event
 
-pub remove_call_lem : {M : Type 1} → removing-promise M
-remove_call_lem = removing-met
+pub remove_call_lem : {M : Type 1} → removing_promise M
+remove_call_lem = removing_met
 
 pub remove_is : {r : Chain} {id n : ℕ} {r' : Chain} → ChainGives r (remove_call r id) n r' → ControlEvent (removes id) r n r'
 remove_is = remove_event
 
-pub enter_call_lem : {M : Type 1} → entering-promise M
-enter_call_lem = entering-met
+pub enter_call_lem : {M : Type 1} → entering_promise M
+enter_call_lem = entering_met
 
 pub enter_is : {r : Chain} {t : List ℕ} {id : ℕ} {key : List ℕ} {n : ℕ} {t' : List ℕ} → EnterGives r t id key n t' → EnterEvent r t id key n t'
 enter_is = enter_event
 
-pub start_call_lem : {M : Type 1} → starting-promise M
-start_call_lem = starting-met
+pub start_call_lem : {M : Type 1} → starting_promise M
+start_call_lem = starting_met
 
-pub blank_call_lem : {M : Type 1} → blanking-promise M
-blank_call_lem = blanking-met
+pub blank_call_lem : {M : Type 1} → blanking_promise M
+blank_call_lem = blanking_met
 
 pub blank_is : {t : List ℕ} {id count n : ℕ} {t' : List ℕ} → BlankGives t id count n t' → BlankEvent id count n t'
 blank_is = blank_event
@@ -382,48 +382,48 @@ bench_written = bench_acknowledges
 -- ---- 11. The C exports: each keeps its promise, and a caller that stores what they leave is a caller of 5
 
 -- register_node_step
-pub register_node_step_code : {M : Type 1} → register-node-step-promise M
-register_node_step_code = register-node-step-met
+pub register_node_step_code : {M : Type 1} → register_node_step_promise M
+register_node_step_code = register_node_step_met
 
 -- register_relay_step
-pub register_relay_step_code : {M : Type 1} → register-relay-step-promise M
-register_relay_step_code = register-relay-step-met
+pub register_relay_step_code : {M : Type 1} → register_relay_step_promise M
+register_relay_step_code = register_relay_step_met
 
 -- register_open
-pub register_open_code : {M : Type 1} → register-open-promise M
-register_open_code = register-open-met
+pub register_open_code : {M : Type 1} → register_open_promise M
+register_open_code = register_open_met
 
 -- register_fence
-pub register_fence_code : {M : Type 1} → register-fence-promise M
-register_fence_code = register-fence-met
+pub register_fence_code : {M : Type 1} → register_fence_promise M
+register_fence_code = register_fence_met
 
 -- register_copy
-pub register_copy_code : {M : Type 1} → register-copy-promise M
-register_copy_code = register-copy-met
+pub register_copy_code : {M : Type 1} → register_copy_promise M
+register_copy_code = register_copy_met
 
 -- register_activate
-pub register_activate_code : {M : Type 1} → register-activate-promise M
-register_activate_code = register-activate-met
+pub register_activate_code : {M : Type 1} → register_activate_promise M
+register_activate_code = register_activate_met
 
 -- register_cancel
-pub register_cancel_code : {M : Type 1} → register-cancel-promise M
-register_cancel_code = register-cancel-met
+pub register_cancel_code : {M : Type 1} → register_cancel_promise M
+register_cancel_code = register_cancel_met
 
 -- register_remove
-pub register_remove_code : {M : Type 1} → register-remove-promise M
-register_remove_code = register-remove-met
+pub register_remove_code : {M : Type 1} → register_remove_promise M
+register_remove_code = register_remove_met
 
 -- register_enter
-pub register_enter_code : {M : Type 1} → register-enter-promise M
-register_enter_code = register-enter-met
+pub register_enter_code : {M : Type 1} → register_enter_promise M
+register_enter_code = register_enter_met
 
 -- register_start
-pub register_start_code : {M : Type 1} → register-start-promise M
-register_start_code = register-start-met
+pub register_start_code : {M : Type 1} → register_start_promise M
+register_start_code = register_start_met
 
 -- register_blank
-pub register_blank_code : {M : Type 1} → register-blank-promise M
-register_blank_code = register-blank-met
+pub register_blank_code : {M : Type 1} → register_blank_promise M
+register_blank_code = register_blank_met
 
 -- its promise determines what it leaves
 pub exports_determined : {A S : Type 0} {code : Out A → ℕ} {make : A → S} {o : Out A} {m n : ℕ} {s s₁ s₂ : S} → Leaves code make o m s s₁ → Leaves code make o n s s₂ → (m ≡ n) × (s₁ ≡ s₂)

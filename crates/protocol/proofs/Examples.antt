@@ -21,7 +21,7 @@ use Rattle.store.specs.Table.{Slot, slot, entered_slot, has, is_free_slot, find,
 use Rattle.store.specs.Held.{holds, held}
 use Rattle.steps.specs.Chain.{members, memb, first_of, last_of, next_of, place_of, insert_at, remove_at, apart, none_above, joining_ok, chain_ok, largest, start_chain}
 use Rattle.steps.specs.Node.{reply, absent, answered, given, version_for, stored, taken, at_slot, node_step}
-use Rattle.steps.specs.Relay.{to_node, to_client, from_client as clientWay, onward, from_node, way_of, relay_step}
+use Rattle.steps.specs.Relay.{to_node, to_client, from_client as client_way, onward, from_node, way_of, relay_step}
 use Rattle.steps.specs.Control.{opened, open_step, fence_step, copy_step, activated, activate_step, cancel_step, removed, remove_step, enter_step}
 use Rattle.protocol.specs.System.{State, Event, from_client, no_packet, at_relay, at_node, opens, fences, copies, activates, cancels, removes, enters, halts, exec, upd, Enabled, Reach, start, step}
 use Rattle.protocol.specs.Demand.{Demand3, ClientWrite, Ready, Acknowledged}
@@ -32,7 +32,7 @@ use Rattle.protocol.proofs.Live.{acknowledged}
 
 -- all that a run computes with: to unfold this is to unfold them
 computing : Unit {0}
-unfolding run outcomes allowed enabled was_made same_packet head_ok packet_ok exec upd pick guard next_session next_sequence next_stamp newer has is_free_slot find lowest_free blank_table held memb first_of last_of next_of place_of insert_at remove_at apart none_above joining_ok chain_ok largest start_chain reply absent answered given version_for stored taken at_slot node_step to_node to_client clientWay onward from_node way_of relay_step opened open_step fence_step copy_step activated activate_step cancel_step removed remove_step enter_step
+unfolding run outcomes allowed enabled was_made same_packet head_ok packet_ok exec upd pick guard next_session next_sequence next_stamp newer has is_free_slot find lowest_free blank_table held memb first_of last_of next_of place_of insert_at remove_at apart none_above joining_ok chain_ok largest start_chain reply absent answered given version_for stored taken at_slot node_step to_node to_client client_way onward from_node way_of relay_step opened open_step fence_step copy_step activated activate_step cancel_step removed remove_step enter_step
 computing = tt
 
 -- ---- what each gives

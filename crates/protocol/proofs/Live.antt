@@ -310,12 +310,16 @@ module _ {s : State} {p : Packet} (rch : Reach s) (c : ClientWrite p) (ready : R
   relays : relay_step s.chain p ≡ ok (node (head s) (to_head s p))
   relays = sends_first s c ready.still
 
+  -- no node holds the key in a later session than the record's
+  low : (j : ℕ) (x : Slot) → held p.key (s.table j).slots ≡ holds x → x.version.session.0 ≤ s.chain.session.0
+  low j x e = (held_low rch c j x e).0
+
   -- the first node gives the write a number
   gives : (x : Sent) × (node_step (s.table (head s)) (to_head s p) ≡ ok x) × Gave (s.table (head s)) (to_head s p) x
   unfolding to_node
   gives =
       let x = ready.known (head s) in_chain in
-      gives_number (s.table (head s)) (to_head s p) (head_accepts rch c) rules.session x.0 x.1 (alters c, refl) (held_low rch c (head s) x.0 x.1).0
+      gives_number (s.table (head s)) (to_head s p) (head_accepts rch c) rules.session x.0 x.1 (alters c, refl) (low (head s) x.0 x.1)
       (λ e. let h = ready.left x.0 x.1 (λ i. record { 0 = e i }) in omega arith)
 
   same : Same p (to_head s p)

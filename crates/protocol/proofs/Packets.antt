@@ -10,7 +10,7 @@ use lib.Dec.{eqb}
 use borrow.Author.Tests.{eq-eqb, ne_eqb}
 use Rattle.wire.specs.Numbers.{pick}
 use Rattle.wire.specs.Version.{zero_version, is_zero}
-use Rattle.wire.specs.Packet.{Packet, Fit, Shape, read, write, delete, value, never_written as neverAnswer, deleted as deletedAnswer, no_key, written, value_size, query, op_read, op_write, op_delete, answer_value, answer_no_value, answer_no_key, answer_written}
+use Rattle.wire.specs.Packet.{Packet, Fit, Shape, read, write, delete, value, never_written as never_answer, deleted as deleted_answer, no_key, written, value_size, query, op_read, op_write, op_delete, answer_value, answer_no_value, answer_no_key, answer_written}
 use Rattle.wire.specs.declared.Version.{Version}
 use Rattle.wire.proofs.Numbers.{pick_true, pick_false, and_both}
 use Rattle.store.specs.Table.{Slot, free_slot, valued, deleted, Used, never_written, has_value, was_deleted}
@@ -20,7 +20,7 @@ use Rattle.store.proofs.Find.{held_holds, find_at, reflect_has}
 use Rattle.steps.specs.declared.Chain.{Chain}
 use Rattle.steps.specs.Node.{Alters, stored, reply}
 use Rattle.steps.specs.Relay.{to_node, to_client}
-use Rattle.steps.proofs.NodeView.{content_value, content_gone, content_none, stored_valued, stored_deleted, content_written, content_deleted, Tells, no_key as tellsNoKey, has_value as tellsValue, never_written as tellsNever, was_deleted as tellsDeleted}
+use Rattle.steps.proofs.NodeView.{content_value, content_gone, content_none, stored_valued, stored_deleted, content_written, content_deleted, Tells, no_key as tells_no_key, has_value as tells_value, never_written as tells_never, was_deleted as tells_deleted}
 use Rattle.steps.proofs.NodeSends.{Altering, writes, deletes, altering, altered}
 use Rattle.protocol.specs.System.{carried}
 use Rattle.protocol.proofs.Ghosts.{and_no}
@@ -85,8 +85,8 @@ alteration p f q a = record { kind = altering q a f.shape; orderly = go f.shape 
     go (write e o h) = h
     go (delete e o n h) = h
     go (value e o s h) = λ _. s
-    go (neverAnswer e o n v) = absurd (a o)
-    go (deletedAnswer e o n s h) = λ _. s
+    go (never_answer e o n v) = absurd (a o)
+    go (deleted_answer e o n s h) = λ _. s
     go (no_key e a b n v) = absurd (omega arith)
     go (written e o n s h) = λ _. s
 
@@ -164,20 +164,20 @@ data Reads (answer : ℕ) (x : List ℕ) (v : Version) (c : Content) : Type 0 wh
   a_deletion : answer ≡ answer_no_value → x ≡ [] → c ≡ gone → 0 < v.session.0 → 0 < v.sequence.0 → Reads answer x v c
 
 reads : (h : Held) (answer : ℕ) (x : List ℕ) → Says (held_content h) (held_version h) → Tells h answer x → Reads answer x (held_version h) (held_content h)
-reads h answer x s (tellsNoKey m e ex) = no_such_key e ex (ap held_version m) (ap held_content m)
-reads h answer x s (tellsValue y m _ _ c e) = go s (ap held_content m ∙ c)
+reads h answer x s (tells_no_key m e ex) = no_such_key e ex (ap held_version m) (ap held_content m)
+reads h answer x s (tells_value y m _ _ c e) = go s (ap held_content m ∙ c)
   where
     go : Says (held_content h) (held_version h) → held_content h ≡ wrote x → Reads answer x (held_version h) (held_content h)
     go (says_nothing n z) c = wrote_nothing (sym c ∙ n)
     go (says_value y n l hs hq) c = a_value e c (let same : x ≡ y = cc in rw same l) hs hq
     go (says_gone n hs hq) c = wrote_gone (sym c ∙ n)
-reads h answer x s (tellsNever y m _ _ c e ex) = go s (ap held_content m ∙ c)
+reads h answer x s (tells_never y m _ _ c e ex) = go s (ap held_content m ∙ c)
   where
     go : Says (held_content h) (held_version h) → held_content h ≡ nothing → Reads answer x (held_version h) (held_content h)
     go (says_nothing n z) c = no_value_yet e ex z c
     go (says_value y n l hs hq) c = wrote_nothing (sym n ∙ c)
     go (says_gone n hs hq) c = gone_nothing (sym n ∙ c)
-reads h answer x s (tellsDeleted y m _ c e ex) = go s (ap held_content m ∙ c)
+reads h answer x s (tells_deleted y m _ c e ex) = go s (ap held_content m ∙ c)
   where
     go : Says (held_content h) (held_version h) → held_content h ≡ gone → Reads answer x (held_version h) (held_content h)
     go (says_nothing n z) c = gone_nothing (sym c ∙ n)
@@ -217,8 +217,8 @@ fit_answer j p h answer x f o s t = go (held_version h) (held_content h) (reads 
     go : (v : Version) (c : Content) → Reads answer x v c → Fit (reply j p answer v x)
     go v c (no_such_key e ex z n) = let l = none ex in fit_reply j p answer v x f (omega arith) (no_key e (omega arith) (omega arith) l z)
     go v c (a_value e n l hs hq) = fit_reply j p answer v x f l (value e o hs hq)
-    go v c (no_value_yet e ex z n) = let l = none ex in fit_reply j p answer v x f (omega arith) (neverAnswer e o l z)
-    go v c (a_deletion e ex n hs hq) = let l = none ex in fit_reply j p answer v x f (omega arith) (deletedAnswer e o l hs hq)
+    go v c (no_value_yet e ex z n) = let l = none ex in fit_reply j p answer v x f (omega arith) (never_answer e o l z)
+    go v c (a_deletion e ex n hs hq) = let l = none ex in fit_reply j p answer v x f (omega arith) (deleted_answer e o l hs hq)
 
 pub fit_no_key : (j : ℕ) (p : Packet) → Fit p → Alteration p → Fit (reply j p answer_no_key zero_version [])
 fit_no_key j p f a = go a.kind

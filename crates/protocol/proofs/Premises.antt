@@ -24,7 +24,7 @@ use Rattle.steps.proofs.Control.{some_members}
 use Rattle.steps.proofs.Node.{found_stands, found_missing}
 use Rattle.steps.proofs.NodeDone.{stands_held}
 use Rattle.steps.proofs.NodeSends.{Altering, writes, deletes, altering}
-use Rattle.steps.proofs.RelayView.{RelayCase, new_read, new_write, handed, acknowledged as acknowledgedCase, passed_on, FromClient, relay_view}
+use Rattle.steps.proofs.RelayView.{RelayCase, new_read, new_write, handed, acknowledged as acknowledged_case, passed_on, FromClient, relay_view}
 use Rattle.protocol.specs.System.{State, Reach}
 use Rattle.protocol.specs.Demand.{ClientWrite, Ready, Acknowledged}
 use Rattle.protocol.proofs.Facts.{chain_keeps}
@@ -87,7 +87,7 @@ taken_write r p w fit from other e = go (relay_view r p w e).case
     go (new_read c) = absurd (other c.read)
     go (new_write c) = by c.sender
     go (handed c) = absurd (c.sender.from from)
-    go (acknowledgedCase c) = absurd (c.sender.from from)
+    go (acknowledged_case c) = absurd (c.sender.from from)
     go (passed_on c) = absurd (c.sender.from from)
 
 -- ---- a state that is ready

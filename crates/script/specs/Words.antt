@@ -8,11 +8,12 @@ use Rattle.script.specs.Sizes.{most_text, no_such}
 abbrev pub space : ℕ
 space = 32
 
--- how far on the byte b is first, or the length of a list that has none
+-- where the byte is, by whether the first is it, and by where it is behind the first
 abbrev pub index_after : Bool → ℕ → ℕ
 index_after true n = 0
 index_after false n = suc n
 
+-- how far on the byte b is first, or the length of a list that has none
 unfoldable pub index_of : ℕ → List ℕ → ℕ
 index_of b [] = 0
 index_of b (x ∷ l) = index_after (eqb x b) (index_of b l)

@@ -9,7 +9,7 @@ use Rattle.wire.specs.Numbers.{Out, ok, number_of, pick, guard}
 use Rattle.wire.specs.Version.{version, next_sequence, newer}
 use Rattle.wire.specs.Packet.{head_of, key_of, value_of, packet_of, front_of, back_of, bytes_of, head_ok, well_formed}
 use Rattle.store.specs.Table.{Slot, slot, slot_of, row_of, slots, table_of, row_ok, frame_ok, table_ok, has, find}
-use Rattle.steps.specs.Node.{reply, absent, answered, given, version_for, stored as storedSlot, taken, at_slot, node_step, node_call}
+use Rattle.steps.specs.Node.{reply, absent, answered, given, version_for, stored as stored_slot, taken, at_slot, node_step, node_call}
 use Rattle.steps.specs.Marked.{the_key, stored, entered, keyless, table_bytes, packet_bytes, Asked, numbered, unnumbered, read, Done, takes, Example, at_node, holds, all_hold}
 
 -- ---- what is asked and what comes of it
@@ -62,7 +62,7 @@ ways =
     ∷ []
 
 all_steps : Unit {0}
-unfolding put pick guard next_sequence newer head_of key_of value_of packet_of front_of back_of bytes_of head_ok well_formed slot_of row_of slots table_of row_ok frame_ok table_ok has find reply absent answered given version_for storedSlot taken at_slot node_step node_call holds all_hold
+unfolding put pick guard next_sequence newer head_of key_of value_of packet_of front_of back_of bytes_of head_ok well_formed slot_of row_of slots table_of row_ok frame_ok table_ok has find reply absent answered given version_for stored_slot taken at_slot node_step node_call holds all_hold
 all_steps = tt
 
 pub node_ways : all_hold ways ≡ true

@@ -11,29 +11,29 @@ use Rattle.be.specs.Be.{Bytes}
 use Rattle.be.proofs.Laws.{bytes_nil}
 use Rattle.wire.specs.Numbers.{ok}
 use Rattle.wire.specs.Version.{zero_version}
-use Rattle.wire.specs.Packet.{Packet, packet_of, Shape, read as is_read, write as isWrite, delete as isDelete, value as is_value, never_written as isNever, deleted as isDeleted, no_key as isNoKey, written as is_written, value_size, op_read, op_write, op_delete, query, answer_no_key, answer_written}
+use Rattle.wire.specs.Packet.{Packet, packet_of, Shape, read as is_read, write as is_write, delete as is_delete, value as is_value, never_written as is_never, deleted as is_deleted, no_key as is_no_key, written as is_written, value_size, op_read, op_write, op_delete, query, answer_no_key, answer_written}
 use Rattle.wire.specs.declared.Session.{Session}
 use Rattle.wire.specs.declared.Version.{Version}
-use Rattle.store.specs.Table.{Slot, Table, table_of, TableRules, free_slot, Used, never_written as usedNever, has_value as usedValue, was_deleted as usedDeleted, Write, keep, set_row, write_bytes, write_table}
+use Rattle.store.specs.Table.{Slot, Table, table_of, TableRules, free_slot, Used, never_written as used_never, has_value as used_value, was_deleted as used_deleted, Write, keep, set_row, write_bytes, write_table}
 use Rattle.store.specs.Held.{Held, holds, held, held_version, version_at}
 use Rattle.store.proofs.Slot.{SlotFits, SlotBytes}
 use Rattle.store.proofs.Rows.{WriteFits, table_write}
 use Rattle.store.proofs.Rules.{SlotRules, slot_used, OfWrite, rules_write, bytes_write, length_table}
 use Rattle.steps.specs.Node.{Sent, reply, stored, node_step, node_call, Alters}
 use Rattle.steps.proofs.Node.{found_stands, NodeCalled, node_called}
-use Rattle.steps.proofs.NodeView.{Accepted, Tells, no_key as tellsNoKey, has_value as tellsValue, never_written as tellsNever, was_deleted as tellsDeleted, Stores, NodeCase, answered, nokey, took, gave, node_view, stored_valued, stored_deleted}
+use Rattle.steps.proofs.NodeView.{Accepted, Tells, no_key as tells_no_key, has_value as tells_value, never_written as tells_never, was_deleted as tells_deleted, Stores, NodeCase, answered, nokey, took, gave, node_view, stored_valued, stored_deleted}
 use Rattle.steps.proofs.NodeSound.{Sound, sound_packet, SoundTable, sound_table, SoundSlot, sound_slot}
 
 -- ---- the shapes of what is sent
 
 op_some : {a o n : ℕ} {v : Version} → Shape a o n v → (1 ≤ o) × (o ≤ 3)
 op_some (is_read a o n z) = (omega arith, omega arith)
-op_some (isWrite a o f) = (omega arith, omega arith)
-op_some (isDelete a o n f) = (omega arith, omega arith)
+op_some (is_write a o f) = (omega arith, omega arith)
+op_some (is_delete a o n f) = (omega arith, omega arith)
 op_some (is_value a o s q) = (omega arith, omega arith)
-op_some (isNever a o n z) = (omega arith, omega arith)
-op_some (isDeleted a o n s q) = (omega arith, omega arith)
-op_some (isNoKey a l m n z) = (l, m)
+op_some (is_never a o n z) = (omega arith, omega arith)
+op_some (is_deleted a o n s q) = (omega arith, omega arith)
+op_some (is_no_key a l m n z) = (l, m)
 op_some (is_written a (inl o) n s q) = (omega arith, omega arith)
 op_some (is_written a (inr o) n s q) = (omega arith, omega arith)
 
@@ -44,18 +44,18 @@ pub data Altering (o n : ℕ) : Type 0 where
 
 pub altering : {a o n : ℕ} {v : Version} → a ≡ query → (o ≡ op_read → ⊥) → Shape a o n v → Altering o n
 altering q r (is_read a o n z) = absurd (r o)
-altering q r (isWrite a o f) = writes o
-altering q r (isDelete a o n f) = deletes o n
+altering q r (is_write a o f) = writes o
+altering q r (is_delete a o n f) = deletes o n
 altering q r (is_value a o s z) = absurd (r o)
-altering q r (isNever a o n z) = absurd (r o)
-altering q r (isDeleted a o n s z) = absurd (r o)
-altering q r (isNoKey a l m n z) = absurd (omega arith)
+altering q r (is_never a o n z) = absurd (r o)
+altering q r (is_deleted a o n s z) = absurd (r o)
+altering q r (is_no_key a l m n z) = absurd (omega arith)
 altering q r (is_written a o n s z) = absurd (omega arith)
 
 -- it keeps its shape under every version that has a session where it has a sequence
 pub altered : {o n : ℕ} {v : Version} → (0 < v.sequence.0 → 0 < v.session.0) → Altering o n → Shape query o n v
-altered h (writes o) = isWrite refl o h
-altered h (deletes o n) = isDelete refl o n h
+altered h (writes o) = is_write refl o h
+altered h (deletes o n) = is_delete refl o n h
 
 -- ---- what is sent is a packet
 
@@ -88,7 +88,7 @@ module _ (t : Table) (p : Packet) (g : SoundTable t) (s : Sound p) where
   reply_nokey : Sound (reply t.id p answer_no_key zero_version [])
   reply_nokey =
       let o = op_some s.fit.shape in
-      sound_reply t.id p answer_no_key zero_version [] g.id s (omega arith) (omega arith) (omega arith) bytes_nil (omega arith) (isNoKey refl o.0 o.1 refl refl)
+      sound_reply t.id p answer_no_key zero_version [] g.id s (omega arith) (omega arith) (omega arith) bytes_nil (omega arith) (is_no_key refl o.0 o.1 refl refl)
 
   -- an answer under the version of the slot held
   reply_slot : (c : Slot) → held p.key t.slots ≡ holds c → (answer : ℕ) (value : List ℕ) → answer ≤ 4 → Bytes value → length value ≤ value_size
@@ -100,33 +100,33 @@ module _ (t : Table) (p : Packet) (g : SoundTable t) (s : Sound p) where
 
   -- an answer to a read
   reply_read : (answer : ℕ) (value : List ℕ) → p.head.op ≡ op_read → Tells (held p.key t.slots) answer value → Sound (reply t.id p answer (version_at p.key t.slots) value)
-  reply_read answer value o (tellsNoKey h a n) =
+  reply_read answer value o (tells_no_key h a n) =
       subst (λ (v : Version). Sound (reply t.id p answer v value)) (sym (ap held_version h))
       (subst (λ (l : List ℕ). Sound (reply t.id p answer zero_version l)) (sym n) (subst (λ (m : ℕ). Sound (reply t.id p m zero_version [])) (sym a) reply_nokey))
-  reply_read answer value o (tellsValue c h e v w a) =
+  reply_read answer value o (tells_value c h e v w a) =
       let k = sound_slot t p.key c g h in
       reply_slot c h answer value (omega arith) (subst Bytes (sym v) k.bytes.value) (omega (arith, ap length v, k.fits.value)) (shape k.used)
     where
       shape : Used c.state (length c.value) c.version → Shape answer p.head.op (length value) c.version
-      shape (usedNever z n y) = absurd (omega arith)
-      shape (usedValue z y q) = is_value a o y q
-      shape (usedDeleted z n y q) = absurd (omega arith)
-  reply_read answer value o (tellsNever c h v d w a n) =
+      shape (used_never z n y) = absurd (omega arith)
+      shape (used_value z y q) = is_value a o y q
+      shape (used_deleted z n y q) = absurd (omega arith)
+  reply_read answer value o (tells_never c h v d w a n) =
       let k = sound_slot t p.key c g h in
       reply_slot c h answer value (omega arith) (subst Bytes (sym n) bytes_nil) (omega (arith, ap length n)) (shape k.used)
     where
       shape : Used c.state (length c.value) c.version → Shape answer p.head.op (length value) c.version
-      shape (usedNever z m y) = isNever a o (ap length n) y
-      shape (usedValue z y q) = absurd (v z)
-      shape (usedDeleted z m y q) = absurd (d z)
-  reply_read answer value o (tellsDeleted c h d w a n) =
+      shape (used_never z m y) = is_never a o (ap length n) y
+      shape (used_value z y q) = absurd (v z)
+      shape (used_deleted z m y q) = absurd (d z)
+  reply_read answer value o (tells_deleted c h d w a n) =
       let k = sound_slot t p.key c g h in
       reply_slot c h answer value (omega arith) (subst Bytes (sym n) bytes_nil) (omega (arith, ap length n)) (shape k.used)
     where
       shape : Used c.state (length c.value) c.version → Shape answer p.head.op (length value) c.version
-      shape (usedNever z m y) = absurd (omega arith)
-      shape (usedValue z y q) = absurd (omega arith)
-      shape (usedDeleted z m y q) = isDeleted a o (ap length n) y q
+      shape (used_never z m y) = absurd (omega arith)
+      shape (used_value z y q) = absurd (omega arith)
+      shape (used_deleted z m y q) = is_deleted a o (ap length n) y q
 
 -- ---- what is stored keeps the rules
 
@@ -142,8 +142,8 @@ sound_stored p v s a hs bs hq bq =
     }
   where
     used : Altering p.head.op (length p.value) → Used (stored p v).state (length p.value) v
-    used (writes o) = usedValue (stored_valued p v o) hs hq
-    used (deletes o n) = usedDeleted (stored_deleted p v o) n hs hq
+    used (writes o) = used_value (stored_valued p v o) hs hq
+    used (deletes o n) = used_deleted (stored_deleted p v o) n hs hq
 
     small : Altering p.head.op (length p.value) → (stored p v).state < 256
     small (writes o) = omega (arith, stored_valued p v o)
@@ -214,10 +214,10 @@ unfolding reply
 never_acks t p x e w = go (node_view t p x e).case
   where
     told : {h : Held} {answer : ℕ} {value : List ℕ} → Tells h answer value → answer ≡ answer_written → ⊥
-    told (tellsNoKey h a n) w = omega arith
-    told (tellsValue c h v z k a) w = omega arith
-    told (tellsNever c h v d k a n) w = omega arith
-    told (tellsDeleted c h d k a n) w = omega arith
+    told (tells_no_key h a n) w = omega arith
+    told (tells_value c h v z k a) w = omega arith
+    told (tells_never c h v d k a n) w = omega arith
+    told (tells_deleted c h d k a n) w = omega arith
 
     go : NodeCase t p x → ⊥
     go (answered c) = told c.tells (sym (ap (λ (q : Packet). q.head.answer) c.sends) ∙ w)

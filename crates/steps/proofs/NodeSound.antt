@@ -11,7 +11,7 @@ use Rattle.wire.specs.Version.{zero_version}
 use Rattle.wire.specs.Packet.{Packet, packet_of, bytes_of, sent_in, outlet_size, key_of, value_of, Formed, Fit, front_size, key_size, key_at, length_at}
 use Rattle.wire.specs.declared.Version.{Version}
 use Rattle.wire.proofs.RoundTrip.{Ranges, ranges, fit_packet, formed_bytes, read_write, take_sent, drop_sent, length_sent}
-use Rattle.store.specs.Table.{Slot, Table, table_of, TableRules, free_slot, Used, never_written as usedNever, has_value as usedValue, was_deleted as usedDeleted}
+use Rattle.store.specs.Table.{Slot, Table, table_of, TableRules, free_slot, Used, never_written as used_never, has_value as used_value, was_deleted as used_deleted}
 use Rattle.store.specs.Held.{Held, missing, holds, held, nothing, content_of, held_version, held_content, version_at, content_at}
 use Rattle.store.proofs.Slot.{SlotFits, SlotBytes}
 use Rattle.store.proofs.Rules.{SlotRules, slot_free, slot_used, table_rules, table_fits, table_bytes_lem}
@@ -95,12 +95,12 @@ pub zero_nothing : (t : Table) (k : List ℕ) → SoundTable t → (version_at k
 zero_nothing t k g = go (held k t.slots) refl
   where
     slot : (s : Slot) → Used s.state (length s.value) s.version → (s.version ≡ zero_version) ↔ (content_of s ≡ nothing)
-    slot s (usedNever z n y) = (λ _. content_none s (λ e. omega arith) (λ e. omega arith), λ _. y)
-    slot s (usedValue z y q) = (
+    slot s (used_never z n y) = (λ _. content_none s (λ e. omega arith) (λ e. omega arith), λ _. y)
+    slot s (used_value z y q) = (
       λ e. absurd (omega (arith, ap (λ (v : Version). v.session.0) e)),
       λ e. absurd (let w = content_value s z in let z : ◌≡◌ {A = ℕ} 0 1 = cc in omega arith),
     )
-    slot s (usedDeleted z n y q) = (
+    slot s (used_deleted z n y q) = (
       λ e. absurd (omega (arith, ap (λ (v : Version). v.session.0) e)),
       λ e. absurd (let w = content_gone s z in let z : ◌≡◌ {A = ℕ} 0 1 = cc in omega arith),
     )

@@ -9,7 +9,7 @@ use Rattle.be.specs.Be.{Bytes}
 use Rattle.be.proofs.Laws.{bytes_nil}
 use Rattle.wire.specs.Numbers.{Out, refuse, ok, number_of, left}
 use Rattle.wire.specs.Version.{sequence}
-use Rattle.wire.specs.Packet.{Packet, packet_of, sent_in, Shape, read as is_read, write as isWrite, delete as isDelete, value as is_value, never_written as isNever, deleted as isDeleted, no_key as isNoKey, written as is_written, value_size, op_write, op_delete, query, answer_written}
+use Rattle.wire.specs.Packet.{Packet, packet_of, sent_in, Shape, read as is_read, write as is_write, delete as is_delete, value as is_value, never_written as is_never, deleted as is_deleted, no_key as is_no_key, written as is_written, value_size, op_write, op_delete, query, answer_written}
 use Rattle.wire.specs.declared.Version.{Version}
 use Rattle.steps.specs.declared.Chain.{Chain}
 use Rattle.steps.specs.declared.Outcome.{Outcome}
@@ -84,12 +84,12 @@ sound_to_client answer value p a s b n shape =
 -- a packet that has a sequence has a session
 with_session : {a o n : ℕ} {v : Version} → Shape a o n v → 0 < v.sequence.0 → 0 < v.session.0
 with_session (is_read a o n z) h = absurd (omega (arith, ap (λ (u : Version). u.sequence.0) z))
-with_session (isWrite a o f) h = f h
-with_session (isDelete a o n f) h = f h
+with_session (is_write a o f) h = f h
+with_session (is_delete a o n f) h = f h
 with_session (is_value a o s q) h = s
-with_session (isNever a o n z) h = absurd (omega (arith, ap (λ (u : Version). u.sequence.0) z))
-with_session (isDeleted a o n s q) h = s
-with_session (isNoKey a l m n z) h = absurd (omega (arith, ap (λ (u : Version). u.sequence.0) z))
+with_session (is_never a o n z) h = absurd (omega (arith, ap (λ (u : Version). u.sequence.0) z))
+with_session (is_deleted a o n s q) h = s
+with_session (is_no_key a l m n z) h = absurd (omega (arith, ap (λ (u : Version). u.sequence.0) z))
 with_session (is_written a o n s q) h = s
 
 -- ---- what is sent is a packet

@@ -13,7 +13,7 @@ use Rattle.wire.specs.declared.Stamp.{Stamp}
 use Rattle.wire.specs.Packet.{key_size, value_size}
 use Rattle.wire.specs.Version.{version, zero_version}
 use Rattle.wire.specs.declared.Version.{Version}
-use Rattle.wire.proofs.Packet.{reflect_zero as reflect-zero-version, reflect_given}
+use Rattle.wire.proofs.Packet.{reflect_zero as reflect_zero_version, reflect_given}
 use Rattle.wire.proofs.Numbers.{Reflects, reflect_true, reflect_eqb, reflect_ltb, reflect_leb, reflect_not, reflect_and, reflect_or, reflect_iff}
 use Rattle.store.specs.Table.{Slot, slot_of, row_of, free_slot, head_size, row_size, state_at, size_at, value_at, most_slots, free, entered, valued, deleted, row_at, row, id_of, count_of, all_zero, used_ok, row_ok, rows_ok, frame_ok, table_ok, Zero, Used, never_written, has_value, was_deleted, RowRules, is_free, is_used, TableRules, Write, keep, set_row, write_bytes, fence_bytes, table_of, slots, whole_slots}
 use Rattle.store.proofs.Slot.{SlotFits, SlotBytes, slot_row, slot_fits, slot_bytes, row_free, length_row_of, bytes_row_of, size_row_of, rest_row_of, row_of_free, zero_at_lem, zero_drop, zero_replicate, row_slot}
@@ -32,7 +32,7 @@ reflect_zero (x ∷ l) = reflect_iff (reflect_and (reflect_eqb x 0) (reflect_zer
 pub reflect_used : (state n : ℕ) (v : Version) → Reflects (used_ok state n v) (Used state n v)
 reflect_used state n v =
     reflect_iff
-    (reflect_or (reflect_and (reflect_eqb state entered) (reflect_and (reflect_eqb n 0) (reflect-zero-version v)))
+    (reflect_or (reflect_and (reflect_eqb state entered) (reflect_and (reflect_eqb n 0) (reflect_zero_version v)))
     (reflect_or (reflect_and (reflect_eqb state valued) (reflect_given v)) (reflect_and (reflect_eqb state deleted) (reflect_and (reflect_eqb n 0) (reflect_given v)))))
     (⊎_elim (λ p. never_written p.0 p.1.0 p.1.1) (⊎_elim (λ p. has_value p.0 p.1.0 p.1.1) (λ p. was_deleted p.0 p.1.0 p.1.1.0 p.1.1.1)), back)
   where

@@ -12,12 +12,12 @@ use Rattle.table.proofs.state.Reads as state
 use Rattle.table.proofs.version.Reads as version
 use Rattle.table.proofs.value.Reads as value
 use Rattle.table.proofs.find.Reads as find
-use Rattle.table.proofs.lowest_free.Reads as lowest-free
+use Rattle.table.proofs.lowest_free.Reads as lowest_free_reads
 use Rattle.table.proofs.good.Reads as good
-use Rattle.table.proofs.write_slot.Reads as write-slot
+use Rattle.table.proofs.write_slot.Reads as write_slot_reads
 use Rattle.table.proofs.store.Reads as store
-use Rattle.table.proofs.set_fence.Reads as set-fence
-use Rattle.table.proofs.copy_slot.Reads as copy-slot
+use Rattle.table.proofs.set_fence.Reads as set_fence_reads
+use Rattle.table.proofs.copy_slot.Reads as copy_slot_reads
 use Rattle.table.proofs.blank.Reads as blank
 
 pub fence_exact : Exact fence.Asked fence.Learnt (λ r e. r)
@@ -44,22 +44,22 @@ value_exact = equation
 pub find_exact : Exact find.Asked find.Learnt (λ r e. r)
 find_exact = equation
 
-pub lowest_free_exact : Exact lowest-free.Asked lowest-free.Learnt (λ r e. r)
+pub lowest_free_exact : Exact lowest_free_reads.Asked lowest_free_reads.Learnt (λ r e. r)
 lowest_free_exact = equation
 
 pub good_exact : Exact good.Asked good.Learnt (λ r e. r)
 good_exact = equation
 
-pub write_slot_exact : Exact write-slot.Asked write-slot.Learnt (λ r e. e.0.now)
+pub write_slot_exact : Exact write_slot_reads.Asked write_slot_reads.Learnt (λ r e. e.0.now)
 write_slot_exact = equation
 
 pub store_exact : Exact store.Asked store.Learnt (λ r e. e.0.now)
 store_exact = equation
 
-pub set_fence_exact : Exact set-fence.Asked set-fence.Learnt (λ r e. e.0.now)
+pub set_fence_exact : Exact set_fence_reads.Asked set_fence_reads.Learnt (λ r e. e.0.now)
 set_fence_exact = equation
 
-pub copy_slot_exact : Exact copy-slot.Asked copy-slot.Learnt (λ r e. e.1.0.now)
+pub copy_slot_exact : Exact copy_slot_reads.Asked copy_slot_reads.Learnt (λ r e. e.1.0.now)
 copy_slot_exact = equation
 
 pub blank_exact : Exact {O = ℕ × List ℕ} blank.Asked blank.Learnt (λ r e. (r, e.0.now))
