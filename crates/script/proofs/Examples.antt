@@ -68,6 +68,8 @@ examples =
     line (99 ∷ 97 ∷ 110 ∷ 99 ∷ 101 ∷ 108 ∷ []) (Rule Cancel) ∷
     -- "cancel "
     line (99 ∷ 97 ∷ 110 ∷ 99 ∷ 101 ∷ 108 ∷ 32 ∷ []) Unclear ∷
+    -- fence, and a tab behind it
+    line (102 ∷ 101 ∷ 110 ∷ 99 ∷ 101 ∷ 9 ∷ []) Unclear ∷
     -- " fence"
     line (32 ∷ 102 ∷ 101 ∷ 110 ∷ 99 ∷ 101 ∷ []) Unclear ∷
     -- enter  3 k

@@ -1,5 +1,5 @@
 -- A line's words, byte by byte: what a turn of each loop does, and what is left at its end.
-use Prim.Native.Nat.{ℕ, suc, ◌+◌, ◌-◌, ◌*◌, ◌<◌, ◌≤◌}
+use Prim.Native.Nat.{ℕ, zero, suc, ◌+◌, ◌-◌, ◌*◌, ◌<◌, ◌≤◌}
 use mathlib.Core.Path.{◌≡◌, refl, sym, ap, ap₂, ◌∙◌}
 use mathlib.Core.Bool.{Bool, true, false, ◌&&◌, ◌||◌}
 use mathlib.Core.List.{List, [], ◌∷◌}
@@ -9,7 +9,7 @@ use native.Mathlib.Numerals.{add-one}
 use lib.ListN.{length, get_or, take, drop, length-drop, drop_of_length-le}
 use lib.Seq.{drop-cons, take_all, slice}
 use lib.Dec.{eqb, ltb, leb}
-use borrow.Author.Tests.{ltb-true, ltb-false, lt-ltb, le-ltb, leb-true, eq-eqb, ne_eqb}
+use borrow.Author.Tests.{eqb-true, eqb-false, ltb-true, ltb-false, lt-ltb, le-ltb, leb-true, eq-eqb, ne_eqb}
 use Rattle.wire.specs.Numbers.{pick, eqs}
 use Rattle.wire.proofs.Numbers.{pick_true, pick_false, pick_case, and_left, reflects_no, reflect_eqs}
 use Rattle.script.specs.declared.Command.{Command}
@@ -36,6 +36,26 @@ index_fits b (x ∷ l) = go (eqb x b) (index_fits b l)
     go : (t : Bool) → index_of b l ≤ length l → index_after t (index_of b l) ≤ suc (length l)
     go true h = omega arith
     go false h = omega arith
+
+-- at it stands the byte, and nowhere before it
+pub index_is : (b : ℕ) (l : List ℕ) → index_of b l < length l → get_or l (index_of b l) 0 ≡ b
+unfolding index_of
+index_is b [] h = absurd (omega arith)
+index_is b (x ∷ l) h = go (index_is b l) (eqb x b) refl h
+  where
+    go : (index_of b l < length l → get_or l (index_of b l) 0 ≡ b) → (t : Bool) → eqb x b ≡ t → index_after t (index_of b l) < suc (length l) → get_or (x ∷ l) (index_after t (index_of b l)) 0 ≡ b
+    go more true e h = eqb-true x b e
+    go more false e h = more (omega arith)
+
+pub index_first : (b : ℕ) (l : List ℕ) (i : ℕ) → i < index_of b l → get_or l i 0 ≡ b → ⊥
+unfolding index_of
+index_first b [] i h q = absurd (omega arith)
+index_first b (x ∷ l) i h q = go (index_first b l) (eqb x b) refl i h q
+  where
+    go : ((i : ℕ) → i < index_of b l → get_or l i 0 ≡ b → ⊥) → (t : Bool) → eqb x b ≡ t → (i : ℕ) → i < index_after t (index_of b l) → get_or (x ∷ l) i 0 ≡ b → ⊥
+    go more true e i h q = absurd (omega arith)
+    go more false e zero h q = eqb-false x b e q
+    go more false e (suc i) h q = more i (omega arith) q
 
 pub index_whole : (b : ℕ) (l : List ℕ) → 0 + index_of b (slice 0 (length l) l) ≡ index_of b l
 index_whole b l = zero-add (index_of b (take (length l) l)) ∙ ap (index_of b) (take_all (length l) l (omega arith))
