@@ -5,14 +5,12 @@ use mathlib.Core.List.{List, [], ◌∷◌, ◌++◌, map}
 use mathlib.Core.Bool.{true, false}
 use lib.ListN.{replicate}
 use Rattle.be.specs.Be.{put}
-use Rattle.wire.specs.Numbers.{guard, left, pick}
+use Rattle.wire.specs.Numbers.{Out, ok, refuse, done, guard, left, pick}
 use Rattle.wire.specs.Version.{session, sequence, stamp, version, last_session, last_sequence, last_stamp, next_session, next_sequence, next_stamp}
 use Rattle.wire.specs.declared.Session.{Session}
 use Rattle.wire.specs.declared.Sequence.{Sequence}
 use Rattle.wire.specs.declared.Stamp.{Stamp}
-use Rattle.wire.specs.declared.Writing.{Writing}
-use Rattle.wire.specs.declared.Writing.TheVariants.{Written, Unwritten}
-use Rattle.wire.specs.Packet.{Packet, packet, front_of, back_of, bytes_of, head_ok, packet_ok, write_call, writing_of, sent_in}
+use Rattle.wire.specs.Packet.{Packet, packet, front_of, back_of, bytes_of, head_ok, packet_ok, write_call, sent_in}
 
 -- a write under 1.2 with a length; key and value as they come
 abbrev writing : ℕ → List ℕ → List ℕ → Packet
@@ -40,15 +38,15 @@ front n =
 pub record Call : Type 0 where
   pub outlet : List ℕ
   pub packet : Packet
-  pub gives : Writing
+  pub gives : Out (Unit {0})
   pub outlet' : List ℕ
 
 -- into an outlet of a size; a refusal leaves it
 abbrev written : ℕ → Packet → List ℕ → Call
-written size p out' = record { outlet = replicate size 255; packet = p; gives = Written; outlet' = out' }
+written size p out' = record { outlet = replicate size 255; packet = p; gives = ok tt; outlet' = out' }
 
 abbrev unwritten : ℕ → Packet → ℕ → Call
-unwritten size p n = record { outlet = replicate size 255; packet = p; gives = Unwritten n; outlet' = replicate size 255 }
+unwritten size p n = record { outlet = replicate size 255; packet = p; gives = refuse n; outlet' = replicate size 255 }
 
 abbrev pub calls : List Call
 calls =
@@ -70,10 +68,10 @@ calls =
 
 -- answer and outlet of a call, and of its example
 abbrev Left : Type 0
-Left = Writing × List ℕ
+Left = Out (Unit {0}) × List ℕ
 
 abbrev leaves : Call → Left
-leaves c = let o = write_call c.outlet c.packet in (writing_of o, left c.outlet (sent_in c.outlet) o)
+leaves c = let o = write_call c.outlet c.packet in (done o, left c.outlet (sent_in c.outlet) o)
 
 pub write_examples : map leaves calls ≡ map (λ (c : Call). (c.gives, c.outlet')) calls
 unfolding put guard front_of back_of bytes_of head_ok packet_ok write_call

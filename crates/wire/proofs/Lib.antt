@@ -1,4 +1,5 @@
 pub mod Numbers
+pub mod Answers
 pub mod Versions
 pub mod Packet
 pub mod RoundTrip

@@ -8,9 +8,9 @@ use native.Mathlib.Omega.{arith}
 use lib.ListN.{length, get_or}
 use lib.Dec.{ltb}
 use borrow.Author.Tests.{ltb-false, lt-ltb, le-ltb, not-false}
-use Rattle.wire.specs.Numbers.{Out, ok, refuse, number_of, Judged, test, small_outlet, malformed}
+use Rattle.wire.specs.Numbers.{ok, refuse, Judged, test, small_outlet, malformed}
 use Rattle.wire.specs.Version.{is_zero, is_given, is_orderly, zero_version}
-use Rattle.wire.specs.Packet.{Packet, packet, front_size, value_size, length_at, key_at, zero_at, outlet_size, op_read, op_write, op_delete, query, answer_value, answer_no_value, answer_no_key, answer_written, head_of, shape_ok, head_ok, well_formed, packet_ok, Shape, read, write, delete, value, never_written, deleted, no_key, written, Formed, Fit, read_call, read_rows, reading_of, reading_number, write_call, write_rows, writing_of, writing_number, key_of, value_of, key_part, value_part}
+use Rattle.wire.specs.Packet.{Packet, packet, front_size, value_size, length_at, key_at, zero_at, outlet_size, op_read, op_write, op_delete, query, answer_value, answer_no_value, answer_no_key, answer_written, head_of, shape_ok, head_ok, well_formed, packet_ok, Shape, read, write, delete, value, never_written, deleted, no_key, written, Formed, Fit, read_call, read_rows, write_call, write_rows, key_of, value_of, key_part, value_part}
 use Rattle.wire.specs.declared.Version.{Version}
 use Rattle.wire.specs.declared.Head.{Head}
 use Rattle.wire.specs.declared.Stamp.{Stamp}
@@ -218,15 +218,6 @@ write_small out p h = stop_guard _ _ _ (lt-ltb _ _ h)
 pub write_refused : (out : List ℕ) (p : Packet) → outlet_size ≤ length out → (Fit p → ⊥) → write_call out p ≡ refuse malformed
 unfolding write_call
 write_refused out p h n = pass_guard _ _ _ (le-ltb _ _ h) ∙ stop_guard _ _ _ (reflects_yes (reflect_not (reflect_fit p)) n)
-
--- document 01's number of each case is the number of the answer
-pub reading_number_lem : (o : Out Head) → reading_number (reading_of o) ≡ number_of o
-reading_number_lem (refuse n) = refl
-reading_number_lem (ok h) = refl
-
-pub writing_number_lem : (o : Out Packet) → writing_number (writing_of o) ≡ number_of o
-writing_number_lem (refuse n) = refl
-writing_number_lem (ok p) = refl
 
 -- the parts of a packet, and of what is none
 pub key_part_lem : (p : List ℕ) → Formed p → key_part p ≡ key_of p

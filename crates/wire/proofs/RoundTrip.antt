@@ -9,12 +9,10 @@ use lib.ListN.{length, get_or, take, drop, length-append, length-take, length-dr
 use lib.Seq.{take_at, drop_at, take_all, take-add, drop-drop, drop-cons}
 use Rattle.be.specs.Be.{be, digits, put, Bytes}
 use Rattle.be.proofs.Laws.{be_at, digits_be, bound, bytes_nil, bytes_cons, bytes_append, take_start, drop_start, length_put}
-use Rattle.wire.specs.Packet.{Packet, packet, front_size, key_size, length_at, key_at, zero_at, outlet_size, head_of, key_of, value_of, packet_of, front_of, back_of, bytes_of, well_formed, Formed, Fit, sent_in, read_call, write_call, key_part, value_part, writing_of, WriteGives}
-use Rattle.wire.specs.Numbers.{Out, refuse, ok, left}
+use Rattle.wire.specs.Packet.{Packet, packet, front_size, key_size, length_at, key_at, zero_at, outlet_size, head_of, key_of, value_of, packet_of, front_of, back_of, bytes_of, well_formed, Formed, Fit, sent_in, read_call, write_call, key_part, value_part, WriteGives}
+use Rattle.wire.specs.Numbers.{Out, refuse, ok, done, left}
 use Rattle.wire.specs.declared.Head.{Head}
-use Rattle.wire.specs.declared.Writing.{Writing}
-use Rattle.wire.specs.declared.Writing.TheVariants.{Written}
-use Rattle.wire.proofs.Numbers.{reflects_yes}
+use Rattle.wire.proofs.Numbers.{reflects_yes, refuse_ok}
 use Rattle.wire.proofs.Packet.{reflect_formed, read_view, read_done, write_view, write_done, key_part_lem, value_part_lem}
 
 -- ---- the ranges of a head's fields
@@ -195,8 +193,8 @@ length_sent out p f h =
 
 -- ---- the same over the calls
 
-wrote : (o : Out Packet) → Written ≡ writing_of o → (q : Packet) × (o ≡ ok q)
-wrote (refuse n) e = absurd (let z : ◌≡◌ {A = ℕ} 0 1 = cc in omega arith)
+wrote : (o : Out Packet) → ok tt ≡ done o → (q : Packet) × (o ≡ ok q)
+wrote (refuse n) e = absurd (refuse_ok (sym e))
 wrote (ok q) e = (q, refl)
 
 -- what bytes are when they are read
@@ -206,7 +204,7 @@ pub record ReadsAs (b : List ℕ) (p : Packet) : Type 0 where
   pub value : value_part b ≡ p.value
 
 -- the first bytes of the outlet, after a packet was written, read as that packet
-pub read_written : (out out' : List ℕ) (p : Packet) → Ranges p.head → WriteGives out p Written out' → ReadsAs (take (front_size + length p.value) out') p
+pub read_written : (out out' : List ℕ) (p : Packet) → Ranges p.head → WriteGives out p (ok tt) out' → ReadsAs (take (front_size + length p.value) out') p
 read_written out out' p r g =
     let w = wrote (write_call out p) g.answer in
     let v = write_view out p w.0 w.1 in
@@ -221,13 +219,13 @@ read_written out out' p r g =
     })
 
 -- what an outlet is after bytes were written to it: these bytes, and the others as before
-pub record Rewritten (b out : List ℕ) (w : Writing) (out' : List ℕ) : Type 0 where
-  pub answer : w ≡ Written
+pub record Rewritten (b out : List ℕ) (w : Out (Unit {0})) (out' : List ℕ) : Type 0 where
+  pub answer : w ≡ ok tt
   pub first : take (length b) out' ≡ b
   pub others : drop (length b) out' ≡ drop (length b) out
 
 -- what was read, written: byte for byte
-pub written_read : (b out out' : List ℕ) (h : Head) (w : Writing) → Bytes b → read_call b ≡ ok h → outlet_size ≤ length out
+pub written_read : (b out out' : List ℕ) (h : Head) (w : Out (Unit {0})) → Bytes b → read_call b ≡ ok h → outlet_size ≤ length out
     → WriteGives out (packet h (key_part b) (value_part b)) w out'
     → Rewritten b out w out'
 unfolding packet_of
@@ -239,7 +237,7 @@ written_read b out out' h w bs e room g =
     let c : write_call out p ≡ ok (packet_of b) = rw is (write_done out (packet_of b) room (fit_packet b f)) in
     let o : out' ≡ put out 0 b = g.outlet ∙ ap (left out (sent_in out)) c ∙ ap (put out 0) (write_read b bs f) in
     record {
-      answer = g.answer ∙ ap writing_of c;
+      answer = g.answer ∙ ap done c;
       first = rw o (take_start out b);
       others = rw o (drop_start out b);
     }

@@ -1,3 +1,4 @@
 pub mod Numbers
 pub mod Version
 pub mod Packet
+pub mod Kinds

@@ -1,5 +1,7 @@
 -- Document 01, "Numbers returned": the refusals and their order, what a step answers, and what it is to give the first refusal that applies; whether two lists are the same.
-use Rattle.std.specs.Prelude.{ℕ, ◌≡◌, List, [], ◌∷◌, Bool, true, false, ◌&&◌, ◌⊎◌, eqb}
+use Rattle.std.specs.Prelude.{ℕ, ◌≡◌, List, [], ◌∷◌, Bool, true, false, ◌&&◌, ◌⊎◌, eqb, Result, Ok, Err}
+use Rattle.wire.specs.declared.Refusal.{Refusal}
+use Rattle.wire.specs.declared.Refusal.TheVariants.{Broken, SmallOutlet, Malformed, Misaddressed, Stranger, Stopped, BelowFence, Sessionless, KeyMissing, SessionOver, NoNumberLeft, NotNewer, ChangeOpen, OutOfTurn, NotMeant, IdUsed, ChainFull, OnlyNode, OtherCount, KeyThere, NoFreeSlot, FenceAbove}
 
 -- ---- the rows of the table, by name
 
@@ -96,6 +98,31 @@ priority =
     ∷ fence_above
     ∷ []
 
+-- the number of each refusal
+abbrev pub refusal_number : Refusal → ℕ
+refusal_number Broken = broken
+refusal_number SmallOutlet = small_outlet
+refusal_number Malformed = malformed
+refusal_number Misaddressed = misaddressed
+refusal_number Stranger = stranger
+refusal_number Stopped = stopped
+refusal_number BelowFence = below_fence
+refusal_number Sessionless = sessionless
+refusal_number KeyMissing = key_missing
+refusal_number SessionOver = session_over
+refusal_number NoNumberLeft = no_number_left
+refusal_number NotNewer = not_newer
+refusal_number ChangeOpen = change_open
+refusal_number OutOfTurn = out_of_turn
+refusal_number NotMeant = not_meant
+refusal_number IdUsed = id_used
+refusal_number ChainFull = chain_full
+refusal_number OnlyNode = only_node
+refusal_number OtherCount = other_count
+refusal_number KeyThere = key_there
+refusal_number NoFreeSlot = no_free_slot
+refusal_number FenceAbove = fence_above
+
 -- ---- what a step answers: a refusal, or what it does
 
 pub data Out (A : Type 0) : Type 0 where
@@ -106,6 +133,20 @@ pub data Out (A : Type 0) : Type 0 where
 abbrev pub number_of : {A : Type 0} → Out A → ℕ
 number_of (refuse n) = n
 number_of (ok a) = 0
+
+-- what an answer of the code says, and the number that it gives
+abbrev pub said : {A : Type 0} → Result A Refusal → Out A
+said (Ok a) = ok a
+said (Err r) = refuse (refusal_number r)
+
+abbrev pub code : {A : Type 0} → Result A Refusal → ℕ
+code (Ok a) = 0
+code (Err r) = refusal_number r
+
+-- whether it is done, whatever was made
+abbrev pub done : {A : Type 0} → Out A → Out (Unit {0})
+done (refuse n) = refuse n
+done (ok a) = ok tt
 
 -- what a step leaves of something: as it was after a refusal, or what the step makes of it
 abbrev pub left : {A B : Type 0} → B → (A → B) → Out A → B
@@ -139,6 +180,11 @@ judge (t ∷ l) y = guard t.holds t.number (judge l y)
 abbrev pub first_number : List Test → ℕ
 first_number [] = 0
 first_number (t ∷ l) = pick t.holds t.number (first_number l)
+
+-- the tests that a step makes of its rows
+abbrev pub tests_of : List (Bool × Refusal) → List Test
+tests_of [] = []
+tests_of (r ∷ l) = test (refusal_number r.1) r.0 ∷ tests_of l
 
 -- ---- how document 01 says it: rows, each with its condition
 

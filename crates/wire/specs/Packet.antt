@@ -1,14 +1,10 @@
 -- Document 01, "Packet": the bytes of a packet, its fields, and which are well-formed.
 use Rattle.std.specs.Prelude.{ℕ, ◌+◌, ◌<◌, ◌≤◌, ◌≡◌, List, [], ◌∷◌, ◌++◌, Bool, ◌&&◌, ◌||◌, not, ◌⊎◌, length, get_or, take, drop, ltb, leb, eqb}
 use Rattle.be.specs.Be.{be, digits, put}
-use Rattle.wire.specs.Numbers.{Out, refuse, ok, judge, test, Case, case, left, small_outlet, malformed, pick}
+use Rattle.wire.specs.Numbers.{Out, ok, done, judge, test, Case, case, left, small_outlet, malformed, pick}
 use Rattle.wire.specs.Version.{version, stamp, is_zero, is_given, is_orderly, zero_version}
 use Rattle.wire.specs.declared.Version.{Version}
 use Rattle.wire.specs.declared.Head.{Head}
-use Rattle.wire.specs.declared.Reading.{Reading}
-use Rattle.wire.specs.declared.Reading.TheVariants.{Fields, Unread}
-use Rattle.wire.specs.declared.Writing.{Writing}
-use Rattle.wire.specs.declared.Writing.TheVariants.{Written, Unwritten}
 
 -- ---- sizes
 
@@ -177,15 +173,6 @@ read_call p = judge (test malformed (not (well_formed p)) ∷ []) (ok (head_of p
 abbrev pub read_rows : List ℕ → List Case
 read_rows p = case malformed (Formed p → ⊥) ∷ []
 
-abbrev pub reading_of : Out Head → Reading
-reading_of (refuse n) = Unread n
-reading_of (ok h) = Fields h
-
--- document 01's number of each case
-abbrev pub reading_number : Reading → ℕ
-reading_number (Fields h) = 0
-reading_number (Unread n) = n
-
 -- the parts that show the key and the value; nothing of what is no packet
 unfoldable pub key_part : List ℕ → List ℕ
 key_part p = pick (well_formed p) (key_of p) []
@@ -201,19 +188,11 @@ write_call out p = judge (test small_outlet (ltb (length out) outlet_size) ∷ t
 abbrev pub write_rows : List ℕ → Packet → List Case
 write_rows out p = case small_outlet (length out < outlet_size) ∷ case malformed (Fit p → ⊥) ∷ []
 
-abbrev pub writing_of : Out Packet → Writing
-writing_of (refuse n) = Unwritten n
-writing_of (ok p) = Written
-
-abbrev pub writing_number : Writing → ℕ
-writing_number Written = 0
-writing_number (Unwritten n) = n
-
 -- an outlet with a packet in it: its first bytes are the packet, and the others stay
 abbrev pub sent_in : List ℕ → Packet → List ℕ
 sent_in out p = put out 0 (bytes_of p)
 
 -- what a call of packet writing promises: its answer, and the outlet afterwards
-pub record WriteGives (out : List ℕ) (p : Packet) (w : Writing) (out' : List ℕ) : Type 0 where
-  pub answer : w ≡ writing_of (write_call out p)
+pub record WriteGives (out : List ℕ) (p : Packet) (w : Out (Unit {0})) (out' : List ℕ) : Type 0 where
+  pub answer : w ≡ done (write_call out p)
   pub outlet : ◌≡◌ {A = List ℕ} out' (left out (sent_in out) (write_call out p))

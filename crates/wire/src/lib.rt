@@ -1,11 +1,12 @@
-// Sizes, ops, answers and numbers returned.
+// Sizes, ops, answers and refusals.
 // Sessions, sequences and stamps: numbers of three kinds, each compared only with its own kind.
 // Versions, and the fields of a packet.
 #![tactic(auto)]
 
-ghost use Rattle.std.specs.Prelude.{◌≡◌};
-ghost use Rattle.wire.specs.Numbers.{pick};
-ghost use Rattle.wire.specs.Version.{version, less_session, same_session, last_session, next_session, less_sequence, same_sequence, last_sequence, next_sequence, less_stamp, same_stamp, last_stamp, next_stamp, newer, is_zero, is_given, is_orderly};
+ghost use Rattle.std.specs.Prelude.{◌≡◌, Bool, true, false};
+ghost use Rattle.wire.specs.Numbers.{pick, refusal_number, code, first_number, tests_of};
+ghost use Rattle.wire.specs.Kinds.{session_stays, sequence_stays, stamp_stays};
+ghost use Rattle.wire.specs.Version.{version, last_session, next_session, last_sequence, next_sequence, last_stamp, next_stamp, newer, is_zero, is_given, is_orderly};
 
 // All of a packet but its value; the key; the most of a value; what an outlet must hold.
 pub const FRONT_SIZE: usize = 40;
@@ -16,86 +17,92 @@ pub const VALUE_SIZE: usize = 128;
 
 pub const OUTLET_SIZE: usize = 168;
 
-// Ops.
-pub const OP_READ: u8 = 1;
-
-pub const OP_WRITE: u8 = 2;
-
-pub const OP_DELETE: u8 = 3;
-
-// Answers; a query is none.
-pub const QUERY: u8 = 0;
-
-pub const ANSWER_VALUE: u8 = 1;
-
-pub const ANSWER_NO_VALUE: u8 = 2;
-
-pub const ANSWER_NO_KEY: u8 = 3;
-
-pub const ANSWER_WRITTEN: u8 = 4;
-
-// Numbers returned, under the names of the definitions.
-pub const BROKEN: u8 = 1;
-
-pub const SMALL_OUTLET: u8 = 2;
-
-pub const MALFORMED: u8 = 3;
-
-pub const MISADDRESSED: u8 = 4;
-
-pub const STRANGER: u8 = 5;
-
-pub const STOPPED: u8 = 6;
-
-pub const BELOW_FENCE: u8 = 7;
-
-pub const SESSIONLESS: u8 = 8;
-
-pub const KEY_MISSING: u8 = 9;
-
-pub const SESSION_OVER: u8 = 10;
-
-pub const NO_NUMBER_LEFT: u8 = 11;
-
-pub const NOT_NEWER: u8 = 12;
-
-pub const CHANGE_OPEN: u8 = 13;
-
-pub const OUT_OF_TURN: u8 = 14;
-
-pub const NOT_MEANT: u8 = 15;
-
-pub const ID_USED: u8 = 16;
-
-pub const CHAIN_FULL: u8 = 17;
-
-pub const ONLY_NODE: u8 = 18;
-
-pub const OTHER_COUNT: u8 = 19;
-
-pub const KEY_THERE: u8 = 20;
-
-pub const NO_FREE_SLOT: u8 = 21;
-
-pub const FENCE_ABOVE: u8 = 22;
-
-// The number of a row that applies, else of the rows behind it.
-pub fn choose(b: bool, x: u8, y: u8) -> u8
-    ensures { result ≡ pick b x y }
-{
-    if b { x } else { y }
+// What a packet asks for. Its byte may hold any number, so it is compared as one: `Op::Read as u8`.
+#[derive(Clone, Copy)]
+pub enum Op {
+    Read = 1,
+    Write = 2,
+    Delete = 3,
 }
 
+// Answers; a query is none.
 #[derive(Clone, Copy)]
+pub enum Answer {
+    Query = 0,
+    Value = 1,
+    NoValue = 2,
+    NoKey = 3,
+    Written = 4,
+}
+
+// Numbers returned, under the names of the definitions.
+#[derive(Clone, Copy)]
+pub enum Refusal {
+    Broken = 1,
+    SmallOutlet = 2,
+    Malformed = 3,
+    Misaddressed = 4,
+    Stranger = 5,
+    Stopped = 6,
+    BelowFence = 7,
+    Sessionless = 8,
+    KeyMissing = 9,
+    SessionOver = 10,
+    NoNumberLeft = 11,
+    NotNewer = 12,
+    ChangeOpen = 13,
+    OutOfTurn = 14,
+    NotMeant = 15,
+    IdUsed = 16,
+    ChainFull = 17,
+    OnlyNode = 18,
+    OtherCount = 19,
+    KeyThere = 20,
+    NoFreeSlot = 21,
+    FenceAbove = 22,
+}
+
+impl From<Refusal> for u8 {
+    ghost from_gives = { λ r n. n ≡ refusal_number r };
+
+    fn from(r: Refusal) -> u8 {
+        r as u8
+    }
+}
+
+// The number returned: the refusal's, or 0 where the step is done.
+pub fn number<T: Copy>(answer: Result<T, Refusal>) -> u8
+    ensures { result ≡ code answer }
+{
+    match answer {
+        Ok(_) => 0,
+        Err(r) => u8::from(r),
+    }
+}
+
+// A step's rows in their order, each with whether it applies: the first that does refuses.
+pub fn first_of<const N: usize>(rows: [(bool, Refusal); N]) -> Result<(), Refusal>
+    ensures { code result ≡ first_number (tests_of rows.entry) }
+{
+    for (applies, refusal) in rows {
+        if applies {
+            return Err(refusal);
+        }
+    }
+    Ok(())
+}
+
+#[derive(Clone, Copy, PartialEq, Eq, PartialOrd, Ord)]
 pub struct Session(pub u16);
 
-#[derive(Clone, Copy)]
+#[derive(Clone, Copy, PartialEq, Eq, PartialOrd, Ord)]
 pub struct Sequence(pub u32);
 
-#[derive(Clone, Copy)]
+#[derive(Clone, Copy, PartialEq, Eq, PartialOrd, Ord)]
 pub struct Stamp(pub u32);
 
-#[derive(Clone, Copy)]
+// Ordered by session first.
+#[derive(Clone, Copy, PartialEq, Eq, PartialOrd, Ord)]
 pub struct Version {
     pub session: Session,
     pub sequence: Sequence,
@@ -115,107 +122,86 @@ pub struct Head {
     pub length: u8,
 }
 
-// What reading a packet answers.
-#[derive(Clone, Copy)]
-pub enum Reading {
-    Fields(Head),
-    Unread(u8),
+// A kind of numbers that grow by one.
+pub trait Kind: Copy + PartialEq {
+    ghost is_last: { Self → Bool };
+
+    ghost after: { Self → Self };
+
+    // The largest number of the kind.
+    const TOP: Self;
+
+    // One more than a number that is not the largest.
+    fn raised(self) -> Self
+        requires { is_last self ≡ false }
+        ensures { result ≡ after self };
+
+    // Whether no number comes after this one.
+    fn last(self) -> bool
+        ensures { result ≡ is_last self };
+
+    // The number after this one; the last stays as it is.
+    final fn next(self) -> Self
+        ensures { result ≡ after self }
+    {
+        if self.last() { self } else { self.raised() }
+    }
+
+    ghost stays: { (n : Self) → is_last n ≡ true → after n ≡ n };
 }
 
-// What writing a packet answers.
-#[derive(Clone, Copy)]
-pub enum Writing {
-    Written,
-    Unwritten(u8),
-}
+impl Kind for Session {
+    ghost is_last = { last_session };
 
-impl Session {
-    pub fn less(self, other: Session) -> bool
-        ensures { result ≡ less_session self other }
-    {
-        self.0 < other.0
-    }
+    ghost after = { next_session };
 
-    pub fn same(self, other: Session) -> bool
-        ensures { result ≡ same_session self other }
-    {
-        self.0 == other.0
-    }
+    const TOP: Session = Session(65535);
 
-    // Whether no session comes after this one.
-    pub fn last(self) -> bool
-        ensures { result ≡ last_session self }
-    {
-        self.0 == 65535
-    }
-
-    // The session after this one; the last stays as it is.
-    pub fn next(self) -> Session
-        ensures { result ≡ next_session self }
-    {
-        if self.0 == 65535 {
-            return self;
-        }
+    fn raised(self) -> Session {
         Session(self.0 + 1)
     }
+
+    fn last(self) -> bool {
+        self == Session::TOP
+    }
+
+    ghost stays = { session_stays };
 }
 
-impl Sequence {
-    pub fn less(self, other: Sequence) -> bool
-        ensures { result ≡ less_sequence self other }
-    {
-        self.0 < other.0
-    }
+impl Kind for Sequence {
+    ghost is_last = { last_sequence };
 
-    pub fn same(self, other: Sequence) -> bool
-        ensures { result ≡ same_sequence self other }
-    {
-        self.0 == other.0
-    }
+    ghost after = { next_sequence };
 
-    pub fn last(self) -> bool
-        ensures { result ≡ last_sequence self }
-    {
-        self.0 == 4294967295
-    }
+    const TOP: Sequence = Sequence(4294967295);
 
-    pub fn next(self) -> Sequence
-        ensures { result ≡ next_sequence self }
-    {
-        if self.0 == 4294967295 {
-            return self;
-        }
+    fn raised(self) -> Sequence {
         Sequence(self.0 + 1)
     }
+
+    fn last(self) -> bool {
+        self == Sequence::TOP
+    }
+
+    ghost stays = { sequence_stays };
 }
 
-impl Stamp {
-    pub fn less(self, other: Stamp) -> bool
-        ensures { result ≡ less_stamp self other }
-    {
-        self.0 < other.0
-    }
+impl Kind for Stamp {
+    ghost is_last = { last_stamp };
 
-    pub fn same(self, other: Stamp) -> bool
-        ensures { result ≡ same_stamp self other }
-    {
-        self.0 == other.0
-    }
+    ghost after = { next_stamp };
 
-    pub fn last(self) -> bool
-        ensures { result ≡ last_stamp self }
-    {
-        self.0 == 4294967295
-    }
+    const TOP: Stamp = Stamp(4294967295);
 
-    pub fn next(self) -> Stamp
-        ensures { result ≡ next_stamp self }
-    {
-        if self.0 == 4294967295 {
-            return self;
-        }
+    fn raised(self) -> Stamp {
         Stamp(self.0 + 1)
     }
+
+    fn last(self) -> bool {
+        self == Stamp::TOP
+    }
+
+    ghost stays = { stamp_stays };
 }
 
 impl Version {
@@ -232,37 +218,28 @@ impl Version {
     pub fn is_zero(self) -> bool
         ensures { result ≡ is_zero self }
     {
-        let s = self.session;
-        let q = self.sequence;
-        (s.0 == 0) & (q.0 == 0)
+        (self.session.0 == 0) & (self.sequence.0 == 0)
     }
 
     // Both numbers over 0.
     pub fn is_given(self) -> bool
         ensures { result ≡ is_given self }
     {
-        let s = self.session;
-        let q = self.sequence;
-        (0 < s.0) & (0 < q.0)
+        (0 < self.session.0) & (0 < self.sequence.0)
     }
 
     // A sequence over 0 only with a session over 0.
     pub fn is_orderly(self) -> bool
         ensures { result ≡ is_orderly self }
     {
-        let s = self.session;
-        let q = self.sequence;
-        (q.0 == 0) | (0 < s.0)
+        (self.sequence.0 == 0) | (0 < self.session.0)
     }
 
-    // Whether this version is strictly newer than the other: by session first.
+    // Whether this version is strictly newer than the other.
+    #[tactic(auto, unfolding(crate::specs::Version::newer))]
     pub fn newer(self, other: Version) -> bool
         ensures { result ≡ newer self other }
     {
-        let s = self.session;
-        let q = self.sequence;
-        let t = other.session;
-        let u = other.sequence;
-        t.less(s) | (t.same(s) & u.less(q))
+        other < self
     }
 }
