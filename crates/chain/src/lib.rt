@@ -4,13 +4,13 @@
 
 ghost use Rattle.std.specs.Prelude.{◌≡◌, ◌+◌, ◌<◌, ◌≤◌, min, get_or, take, drop, ltb, eqb};
 ghost use Rattle.store.specs.Table.{all_zero};
-ghost use Rattle.wire.specs.Numbers.{pick, number_of};
-ghost use Rattle.steps.specs.Chain.{most_nodes, members, memb, first_of, last_of, next_of, place_of, insert_at, remove_at, largest, joining_ok, is_open, change_ok, chain_ok, with_change, start_chain, start_call};
+ghost use Rattle.wire.specs.Numbers.{pick, said};
+ghost use Rattle.steps.specs.Chain.{most_nodes, members, memb, first_of, last_of, next_of, place_of, insert_at, remove_at, largest, joining_ok, change_ok, chain_ok, start_call};
 ghost use Rattle.chain.specs.Ids.{ids_ok};
 
-use steps::{Chain, Change, Joining, Ruling};
+use steps::{Chain, Change, Joining};
 use store::MOST_SLOTS;
-use wire::{BROKEN, Session, Stamp};
+use wire::{Refusal, Session, Stamp};
 
 pub const MOST_NODES: usize = 8;
 
@@ -175,38 +175,8 @@ pub fn good(c: Chain) -> bool
     ((0 < c.length) & (length <= MOST_NODES))
         & (ids_ok(places, n, c.highest)
             & (zeros(places, length)
-                & (!session.same(Session(0))
+                & ((session != Session(0))
                     & (((0 < c.count) & (wide(c.count) <= MOST_SLOTS)) & change(c)))))
-}
-
-// ---- the state of change
-
-pub fn is_open(ch: Change) -> bool
-    ensures { result ≡ is_open ch }
-{
-    match ch {
-        Change::Still => false,
-        Change::Before(_) => true,
-        Change::After(_) => true,
-    }
-}
-
-// The record with another state of change.
-pub fn with_change(c: Chain, ch: Change) -> Chain
-    ensures { result ≡ with_change c ch }
-{
-    let places = c.places;
-    let wiring = c.wiring;
-    let session = c.session;
-    Chain {
-        length: c.length,
-        places: places,
-        wiring: wiring,
-        session: session,
-        highest: c.highest,
-        count: c.count,
-        change: ch,
-    }
 }
 
 // ---- one id inserted or removed
@@ -252,10 +222,9 @@ pub fn remove(places: [u16; 8], at: usize) -> [u16; 8]
 
 // ---- at the start
 
-// A starting record, and 1 where it would break the rules.
-pub fn start(length: u8, places: [u16; 8], count: u16) -> Ruling
-    ensures number { result.number ≡ number_of (start_call length places count) }
-    ensures chain { result.chain ≡ start_chain length places count }
+// A starting record, if it keeps the rules.
+pub fn start(length: u8, places: [u16; 8], count: u16) -> Result<Chain, Refusal>
+    ensures { said result ≡ start_call length places count }
 {
     let c = Chain {
         length: length,
@@ -266,14 +235,5 @@ pub fn start(length: u8, places: [u16; 8], count: u16) -> Ruling
         count: count,
         change: Change::Still,
     };
-    if good(c) {
-        return Ruling {
-            number: 0,
-            chain: c,
-        };
-    }
-    Ruling {
-        number: BROKEN,
-        chain: c,
-    }
+    if good(c) { Ok(c) } else { Err(Refusal::Broken) }
 }

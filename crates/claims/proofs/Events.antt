@@ -13,7 +13,7 @@ use Rattle.wire.proofs.Numbers.{pick_true, pick_false, pick_case, past, ok_inj, 
 use Rattle.store.specs.Table.{most_slots, blank_bytes, blank_call, blank_rows, BlankGives}
 use Rattle.store.proofs.Blank.{blank_judged, length_blank}
 use Rattle.steps.specs.declared.Chain.{Chain}
-use Rattle.steps.specs.declared.Outcome.{Outcome}
+use Rattle.steps.specs.Relay.{Outcome}
 use Rattle.steps.specs.Chain.{start_chain, start_call, start_rows}
 use Rattle.steps.specs.Node.{NodeGives}
 use Rattle.steps.specs.Relay.{outcome_of, outcome_number, packet_sent, relay_call, RelayGives}

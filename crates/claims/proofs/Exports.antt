@@ -16,8 +16,8 @@ use Rattle.steps.specs.declared.Joining.{Joining}
 use Rattle.steps.specs.declared.Change.{Change}
 use Rattle.steps.specs.declared.Change.TheVariants.{Still, Before, After}
 use Rattle.steps.specs.declared.Chain.{Chain}
-use Rattle.steps.specs.declared.Outcome.{Outcome}
-use Rattle.steps.specs.declared.Outcome.TheVariants.{ToNode, ToClient, Dropped}
+use Rattle.steps.specs.Relay.{Outcome}
+use Rattle.steps.specs.declared.Destination.TheVariants.{ToNode, ToClient}
 use Rattle.steps.specs.Chain.{most_nodes, members, chain_ok, ChainRules, JoiningRules, ChangeRules, start_chain, start_call}
 use Rattle.steps.specs.Relay.{outcome_of, outcome_number, relay_call, RelayGives}
 use Rattle.steps.specs.Control.{ChainGives, FenceGives, CopyGives, EnterGives, open_call, fence_call, copy_call, activate_call, cancel_call, remove_call, enter_call}
@@ -177,9 +177,9 @@ misopened kind named fresh none g = (leaves_is (stop_guard _ _ _ (reflects_yes (
 
 -- document 01's number of an outcome that a number tells
 pub code_number : (o : Outcome) → Told o → relay_number (outcome_code o) ≡ outcome_number o
-code_number (ToNode j) t = pick_false _ _ _ (le-ltb (client_code + j) client_code (omega arith))
-code_number ToClient t = pick_false _ _ _ refl
-code_number (Dropped n) t = pick_true _ _ _ (lt-ltb n client_code t)
+code_number (ok (ToNode j)) t = pick_false _ _ _ (le-ltb (client_code + j) client_code (omega arith))
+code_number (ok ToClient) t = pick_false _ _ _ refl
+code_number (refuse n) t = pick_true _ _ _ (lt-ltb n client_code t)
 
 -- ---- a caller of the exports
 

@@ -14,7 +14,7 @@ use Rattle.store.specs.Table.{blank_call, blank_rows, BlankGives}
 use Rattle.store.specs.Held.{Content}
 use Rattle.store.proofs.Blank.{blank_judged, blank_once}
 use Rattle.steps.specs.declared.Chain.{Chain}
-use Rattle.steps.specs.declared.Outcome.{Outcome}
+use Rattle.steps.specs.Relay.{Outcome}
 use Rattle.steps.specs.Chain.{start_call, start_rows}
 use Rattle.steps.specs.Node.{node_call, node_rows, NodeGives}
 use Rattle.steps.specs.Relay.{relay_call, relay_rows, RelayGives}

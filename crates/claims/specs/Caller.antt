@@ -3,7 +3,7 @@
 use Rattle.std.specs.Prelude.{ℕ, ◌≡◌, List, Bool}
 use Rattle.store.specs.Table.{BlankGives}
 use Rattle.steps.specs.declared.Chain.{Chain}
-use Rattle.steps.specs.declared.Outcome.{Outcome}
+use Rattle.steps.specs.Relay.{Outcome}
 use Rattle.steps.specs.Node.{NodeGives}
 use Rattle.steps.specs.Relay.{RelayGives, outcome_number}
 use Rattle.steps.specs.Control.{ChainGives, FenceGives, CopyGives, EnterGives, open_call, activate_call, cancel_call, remove_call}

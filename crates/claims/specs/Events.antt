@@ -3,7 +3,7 @@ use Rattle.std.specs.Prelude.{ℕ, ◌≡◌, List, Bool, eqb}
 use Rattle.wire.specs.Numbers.{ok, pick}
 use Rattle.store.specs.Table.{blank_bytes}
 use Rattle.steps.specs.declared.Chain.{Chain}
-use Rattle.steps.specs.declared.Outcome.{Outcome}
+use Rattle.steps.specs.Relay.{Outcome}
 use Rattle.steps.specs.Chain.{start_call}
 use Rattle.steps.specs.Relay.{outcome_number}
 use Rattle.claims.specs.Bytes.{EventB, asking, relaying, stepping, opening, fencing, copying, entering, StateB, after_relay, after_node, after_control, after_control_at, exec_b}

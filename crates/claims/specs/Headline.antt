@@ -9,8 +9,8 @@ use Rattle.store.specs.Table.{Slot, table_of, slot_of, row, count_of}
 use Rattle.store.specs.Held.{holds, held, Content, nothing, content_of}
 use Rattle.steps.specs.declared.Change.TheVariants.{Still}
 use Rattle.steps.specs.Chain.{members, first_of}
-use Rattle.steps.specs.declared.Outcome.{Outcome}
-use Rattle.steps.specs.declared.Outcome.TheVariants.{ToNode, ToClient}
+use Rattle.steps.specs.Relay.{Outcome}
+use Rattle.steps.specs.declared.Destination.TheVariants.{ToNode, ToClient}
 use Rattle.steps.specs.Node.{Unnumbered}
 use Rattle.steps.specs.Relay.{outcome_of, relay_call}
 use Rattle.protocol.specs.System.{carried}
@@ -137,8 +137,8 @@ pub record Ready (s : StateB) (k : List ℕ) : Type 0 where
 
 -- where the relay sends a packet that has these nodes still before it: to the first of them, or to the client
 abbrev pub outcome_along : List ℕ → Outcome
-outcome_along [] = ToClient
-outcome_along (j ∷ l) = ToNode j
+outcome_along [] = ok ToClient
+outcome_along (j ∷ l) = ok (ToNode j)
 
 -- packet p goes to node j, and what the node makes of it to the relay; both may happen, each makes one packet, the relay sends its own on along the nodes l, and then P holds
 pub record Hop (P : StateB → List ℕ → Type 0) (s : StateB) (j : ℕ) (l p out out' : List ℕ) : Type 0 where

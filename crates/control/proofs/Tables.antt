@@ -13,8 +13,7 @@ use Rattle.wire.specs.declared.Stamp.{Stamp}
 use Rattle.wire.specs.declared.Version.{Version}
 use Rattle.wire.proofs.Numbers.{pass_guard, stop_guard, judge_refused, all_passed, judge_done}
 use Rattle.store.specs.Table.{table_of, table_ok, TableRules, count_of, most_slots, fence_bytes, Slot, slots, whole_slots, find, lowest_free, slot, entered, entered_slot, Write, set_row, write_bytes}
-use Rattle.store.specs.declared.Found.{Found}
-use Rattle.store.specs.declared.Found.TheVariants.{At, Nothing}
+use Rattle.std.specs.Prelude.{Option, Some, None}
 use Rattle.store.proofs.Find.{free_at}
 use Rattle.store.proofs.Rules.{reflect_table, length_table, slots_table}
 use Rattle.table.specs.Parts.{id_part, count_part, fence_part, fence_set, slot_copied, slot_stored}
@@ -179,16 +178,16 @@ module _ (r : Chain) (t : List ℕ) (id : ℕ) (key : List ℕ) where
     unfolding enter_call enter_step
     enter_last = judge_done (enter_first r t id key) _ refl (sym e ∙ z)
 
-    pub enter_full : lowest_free (slots (whole_slots t) t) ≡ Nothing → EnterGives r t id key no_free_slot t
+    pub enter_full : lowest_free (slots (whole_slots t) t) ≡ None → EnterGives r t id key no_free_slot t
     enter_full f =
-        let lowest : lowest_free (table_of t).slots ≡ Nothing = ap lowest_free (sym (slots_table t enter_rules)) ∙ f in
+        let lowest : lowest_free (table_of t).slots ≡ None = ap lowest_free (sym (slots_table t enter_rules)) ∙ f in
         let d : enter_call r t id key ≡ refuse no_free_slot = enter_last ∙ stop_guard _ _ _ (ap is_nothing lowest) in
         record { number = sym (ap number_of d); table = sym (ap (left t (λ w. write_bytes w t)) d) }
 
-    pub enter_done : (i : ℕ) {t' : List ℕ} → lowest_free (slots (whole_slots t) t) ≡ At i → length key ≡ key_size → t' ≡ slot_stored t i (entered_slot key) → EnterGives r t id key 0 t'
+    pub enter_done : (i : ℕ) {t' : List ℕ} → lowest_free (slots (whole_slots t) t) ≡ Some i → length key ≡ key_size → t' ≡ slot_stored t i (entered_slot key) → EnterGives r t id key 0 t'
     enter_done i f k y =
-        let lowest : lowest_free (table_of t).slots ≡ At i = ap lowest_free (sym (slots_table t enter_rules)) ∙ f in
-        let d : enter_call r t id key ≡ ok (set_row i (entered_slot key)) = enter_last ∙ pass_guard _ _ _ (ap is_nothing lowest) ∙ ap (λ (x : Found). ok (enter_at key x)) lowest in
+        let lowest : lowest_free (table_of t).slots ≡ Some i = ap lowest_free (sym (slots_table t enter_rules)) ∙ f in
+        let d : enter_call r t id key ≡ ok (set_row i (entered_slot key)) = enter_last ∙ pass_guard _ _ _ (ap is_nothing lowest) ∙ ap (λ (x : Option ℕ). ok (enter_at key x)) lowest in
         let below : i < count_of t = let b = (free_at (table_of t).slots i lowest).below in omega (arith, length_table t) in
         record {
           number = sym (ap number_of d);

@@ -17,8 +17,7 @@ use Rattle.wire.specs.declared.Version.{Version}
 use Rattle.wire.proofs.Numbers.{pass_guard, stop_guard, reflects_yes, reflects_no, reflect_not, pick_true, pick_false}
 use Rattle.wire.proofs.Packet.{reflect_formed}
 use Rattle.store.specs.Table.{Slot, Table, slot, table_of, table_ok, TableRules, count_of, find, slots, whole_slots, free_slot, valued, deleted, Write, set_row, write_bytes}
-use Rattle.store.specs.declared.Found.{Found}
-use Rattle.store.specs.declared.Found.TheVariants.{At, Nothing}
+use Rattle.std.specs.Prelude.{Option, Some, None}
 use Rattle.store.proofs.Rules.{reflect_table, length_table, whole_table, slots_table}
 use Rattle.store.proofs.Slot.{SlotFits}
 use Rattle.store.proofs.Find.{find_at}
@@ -41,54 +40,54 @@ use Rattle.node.specs.declared.Way.TheVariants.{Refused, Sends}
 module _ (h : Head) (i : ℕ) (v : Version) where
   -- a read
   module _ (state : ℕ) (r : h.op ≡ op_read) where
-    pub value_way : state ≡ valued → Settles h (At i) (Sends (replied answer_value v i)) (λ t. HasState i state t × HasVersion i v t)
+    pub value_way : state ≡ valued → Settles h (Some i) (Sends (replied answer_value v i)) (λ t. HasState i state t × HasVersion i v t)
     unfolding guard pick at_slot answered sent_by kept carried
     value_way e t k x is = rw (eq-eqb h.op op_read r, is.0, eq-eqb state valued e, is.1)
 
-    pub no_value_way : (state ≡ valued → ⊥) → Settles h (At i) (Sends (replied answer_no_value v i)) (λ t. HasState i state t × HasVersion i v t)
+    pub no_value_way : (state ≡ valued → ⊥) → Settles h (Some i) (Sends (replied answer_no_value v i)) (λ t. HasState i state t × HasVersion i v t)
     unfolding guard pick at_slot answered sent_by kept carried
     no_value_way e t k x is = rw (eq-eqb h.op op_read r, is.0, ne_eqb state valued e, is.1)
 
   module _ (a : h.op ≡ op_read → ⊥) where
     -- a write or delete with a number
     module _ (n : h.version.sequence.0 ≡ 0 → ⊥) where
-      pub older_way : newer h.version v ≡ false → Settles h (At i) (Refused not_newer) (HasVersion i v)
+      pub older_way : newer h.version v ≡ false → Settles h (Some i) (Refused not_newer) (HasVersion i v)
       unfolding guard
       older_way e t k x is = rw (is, ne_eqb h.op op_read a, ne_eqb h.version.sequence.0 0 n, e)
 
-      pub newer_way : newer h.version v ≡ true → Settles h (At i) (Sends (replied query h.version i)) (HasVersion i v)
+      pub newer_way : newer h.version v ≡ true → Settles h (Some i) (Sends (replied query h.version i)) (HasVersion i v)
       unfolding guard pick at_slot version_for taken sent_by kept carried
       newer_way e t k x is = rw (is, ne_eqb h.op op_read a, ne_eqb h.version.sequence.0 0 n, e)
 
     -- one without
     module _ (u : h.version.sequence.0 ≡ 0) where
-      pub over_way : less_session h.version.session v.session ≡ true → Settles h (At i) (Refused session_over) (HasVersion i v)
+      pub over_way : less_session h.version.session v.session ≡ true → Settles h (Some i) (Refused session_over) (HasVersion i v)
       unfolding guard
       over_way e t k x is = rw (is, ne_eqb h.op op_read a, eq-eqb h.version.sequence.0 0 u, e)
 
       module _ (under : less_session h.version.session v.session ≡ false) where
-        pub last_way : same_session h.version.session v.session ≡ true → last_sequence v.sequence ≡ true → Settles h (At i) (Refused no_number_left) (HasVersion i v)
+        pub last_way : same_session h.version.session v.session ≡ true → last_sequence v.sequence ≡ true → Settles h (Some i) (Refused no_number_left) (HasVersion i v)
         unfolding guard
         last_way e f t k x is = rw (is, ne_eqb h.op op_read a, eq-eqb h.version.sequence.0 0 u, under, e, f)
 
         pub next_way : same_session h.version.session v.session ≡ true → last_sequence v.sequence ≡ false
-            → Settles h (At i) (Sends (replied query (record { session = h.version.session; sequence = next_sequence v.sequence }) i)) (HasVersion i v)
+            → Settles h (Some i) (Sends (replied query (record { session = h.version.session; sequence = next_sequence v.sequence }) i)) (HasVersion i v)
         unfolding guard pick at_slot version_for given taken sent_by kept carried
         next_way e f t k x is = rw (is, ne_eqb h.op op_read a, eq-eqb h.version.sequence.0 0 u, under, e, f)
 
         pub first_way : same_session h.version.session v.session ≡ false
-            → Settles h (At i) (Sends (replied query (record { session = h.version.session; sequence = sequence 1 }) i)) (HasVersion i v)
+            → Settles h (Some i) (Sends (replied query (record { session = h.version.session; sequence = sequence 1 }) i)) (HasVersion i v)
         unfolding guard pick at_slot version_for given taken sent_by kept carried
         first_way e t k x is = rw (is, ne_eqb h.op op_read a, eq-eqb h.version.sequence.0 0 u, under, e)
 
 -- ---- a key that is missing
 
 module _ (h : Head) where
-  pub missing_way : (not (eqb h.op op_read) && not (eqb h.version.sequence.0 0)) ≡ true → Settles h Nothing (Refused key_missing) (λ _. Unit {0})
+  pub missing_way : (not (eqb h.op op_read) && not (eqb h.version.sequence.0 0)) ≡ true → Settles h None (Refused key_missing) (λ _. Unit {0})
   unfolding guard
   missing_way e t k x _ = rw e
 
-  pub absent_way : (not (eqb h.op op_read) && not (eqb h.version.sequence.0 0)) ≡ false → Settles h Nothing (Sends (replied answer_no_key zero_version 0)) (λ _. Unit {0})
+  pub absent_way : (not (eqb h.op op_read) && not (eqb h.version.sequence.0 0)) ≡ false → Settles h None (Sends (replied answer_no_key zero_version 0)) (λ _. Unit {0})
   unfolding guard pick absent sent_by kept carried
   absent_way e t k x _ = rw (e, and-false)
 
@@ -96,11 +95,11 @@ module _ (h : Head) where
 
 module _ {t : List ℕ} (g : TableRules t) where
   -- what the search found
-  pub is_found : (p : List ℕ) {k : List ℕ} {f w : Found} → k ≡ key_of p → f ≡ find k (slots (whole_slots t) t) → f ≡ w → find (key_of p) (table_of t).slots ≡ w
+  pub is_found : (p : List ℕ) {k : List ℕ} {f w : Option ℕ} → k ≡ key_of p → f ≡ find k (slots (whole_slots t) t) → f ≡ w → find (key_of p) (table_of t).slots ≡ w
   is_found p ek ef ew = (λ j. find (sym ek j) (sym (slots_table t g) j)) ∙ (sym ef ∙ ew)
 
   -- the fields of the slot that it found
-  module _ (p : List ℕ) {i : ℕ} (found : find (key_of p) (table_of t).slots ≡ At i) where
+  module _ (p : List ℕ) {i : ℕ} (found : find (key_of p) (table_of t).slots ≡ Some i) where
     there : i < count_of t
     there = omega (arith, (find_at (key_of p) (table_of t).slots i found).below, length_table t)
 

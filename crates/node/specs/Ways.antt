@@ -5,7 +5,7 @@ use Rattle.wire.specs.Packet.{Packet, packet, head_of, key_of, value_of, Formed,
 use Rattle.wire.specs.declared.Head.{Head}
 use Rattle.wire.specs.declared.Version.{Version}
 use Rattle.store.specs.Table.{Table, table_of, TableRules, free_slot, Write, keep, set_row}
-use Rattle.store.specs.declared.Found.{Found}
+use Rattle.std.specs.Prelude.{Option, Some, None}
 use Rattle.steps.specs.Node.{Sent, sent, reply, stored, node_tests, node_does, node_step}
 use Rattle.node.specs.declared.Reply.{Reply}
 use Rattle.node.specs.declared.Way.{Way}
@@ -38,11 +38,11 @@ abbrev pub asked : Head → List ℕ → Packet
 asked h p = packet h (key_of p) (value_of p)
 
 -- what is left of the step behind the rows 4, 7 and 8
-abbrev pub behind : Table → Packet → Found → Out Sent
+abbrev pub behind : Table → Packet → Option ℕ → Out Sent
 behind t p f = judge (drop 3 (node_tests t p f)) (ok (node_does t p f))
 
 -- for every table that P holds of, every key and every value, where the key was found so
-abbrev pub Settles : Head → Found → Way → (Table → Type 0) → Type 0
+abbrev pub Settles : Head → Option ℕ → Way → (Table → Type 0) → Type 0
 Settles h f w P = (t : Table) (k x : List ℕ) → P t → behind t (packet h k x) f ≡ outcome t (packet h k x) w
 
 -- of slot i

@@ -11,8 +11,8 @@ use Rattle.wire.specs.Numbers.{Out, refuse, ok, First, Applies, priority, fence_
 use Rattle.wire.specs.Packet.{Packet, packet_of}
 use Rattle.wire.proofs.Numbers.{and_left, and_right, judged_refused}
 use Rattle.steps.specs.declared.Chain.{Chain}
-use Rattle.steps.specs.declared.Outcome.{Outcome}
-use Rattle.steps.specs.declared.Outcome.TheVariants.{ToNode, ToClient, Dropped}
+use Rattle.steps.specs.Relay.{Outcome}
+use Rattle.steps.specs.declared.Destination.TheVariants.{ToNode, ToClient}
 use Rattle.steps.specs.Chain.{members, first_of, last_of, next_of, ChainRules}
 use Rattle.steps.specs.Relay.{Way, node, client, outcome_of, relay_call, relay_rows}
 use Rattle.steps.proofs.ChainIds.{first_mem, last_mem}
@@ -23,20 +23,20 @@ use Rattle.numbers.specs.Answers.{client_code, outcome_code}
 
 -- an outcome that a number tells: a node has an id, and a refusal is below the client's number
 abbrev pub Told : Outcome → Type 0
-Told (ToNode j) = 0 < j
+Told (ok (ToNode j)) = 0 < j
 Told ToClient = Unit {0}
-Told (Dropped n) = n < client_code
+Told (refuse n) = n < client_code
 
 pub code_told : (o p : Outcome) → Told o → Told p → outcome_code o ≡ outcome_code p → o ≡ p
-code_told (ToNode i) (ToNode j) h k e = ap ToNode (omega arith)
-code_told (ToNode i) ToClient h k e = absurd (omega arith)
-code_told (ToNode i) (Dropped n) h k e = absurd (omega arith)
-code_told ToClient (ToNode j) h k e = absurd (omega arith)
+code_told (ok (ToNode i)) (ok (ToNode j)) h k e = ap ToNode (omega arith)
+code_told (ok (ToNode i)) (ok ToClient) h k e = absurd (omega arith)
+code_told (ok (ToNode i)) (refuse n) h k e = absurd (omega arith)
+code_told ToClient (ok (ToNode j)) h k e = absurd (omega arith)
 code_told ToClient ToClient h k e = refl
-code_told ToClient (Dropped n) h k e = absurd (omega arith)
-code_told (Dropped m) (ToNode j) h k e = absurd (omega arith)
-code_told (Dropped m) ToClient h k e = absurd (omega arith)
-code_told (Dropped m) (Dropped n) h k e = ap Dropped e
+code_told ToClient (refuse n) h k e = absurd (omega arith)
+code_told (refuse m) (ok (ToNode j)) h k e = absurd (omega arith)
+code_told (refuse m) (ok ToClient) h k e = absurd (omega arith)
+code_told (refuse m) (refuse n) h k e = ap refuse e
 
 -- ---- every outcome of the relay step is told
 

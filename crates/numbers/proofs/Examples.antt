@@ -7,11 +7,11 @@ use lib.ListN.{take}
 use Rattle.wire.specs.Numbers.{Out, refuse, ok, guard, pick}
 use Rattle.wire.specs.Version.{session, stamp, version}
 use Rattle.wire.specs.declared.Head.{Head}
-use Rattle.store.specs.declared.Found.TheVariants.{At, Nothing}
+use Rattle.std.specs.Prelude.{Some, None}
 use Rattle.steps.specs.declared.Change.{Change}
 use Rattle.steps.specs.declared.Change.TheVariants.{Still, Before, After}
 use Rattle.steps.specs.declared.Chain.{Chain}
-use Rattle.steps.specs.declared.Outcome.TheVariants.{ToNode, ToClient, Dropped}
+use Rattle.steps.specs.declared.Destination.TheVariants.{ToNode, ToClient}
 use Rattle.steps.specs.Chain.{joining}
 use Rattle.numbers.specs.Record.{record_fits, change_of, chain_of, record_of, numbers_of}
 use Rattle.numbers.specs.Fields.{fields_fit, head_from, fields_of}
@@ -109,9 +109,9 @@ fields_fit_lem = refl
 
 -- ---- answers: to the client, to nodes 1 and 65,535, dropped; slots 0 and 255, and none
 
-pub outcome_codes : map outcome_code (ToClient ∷ ToNode 1 ∷ ToNode 65535 ∷ Dropped 6 ∷ []) ≡ 65536 ∷ 65537 ∷ 131071 ∷ 6 ∷ []
+pub outcome_codes : map outcome_code ((ok ToClient) ∷ ok (ToNode 1) ∷ ToNode 65535 ∷ refuse 6 ∷ []) ≡ 65536 ∷ 65537 ∷ 131071 ∷ 6 ∷ []
 outcome_codes = refl
 
-pub found_codes : map found_code (At 0 ∷ At 255 ∷ Nothing ∷ []) ≡ 0 ∷ 255 ∷ 65536 ∷ []
+pub found_codes : map found_code (Some 0 ∷ Some 255 ∷ None ∷ []) ≡ 0 ∷ 255 ∷ 65536 ∷ []
 unfolding pick
 found_codes = refl

@@ -11,10 +11,8 @@ use lib.Dec.{eqb}
 use borrow.Author.Tests.{le-leb}
 use Rattle.be.specs.Be.{be}
 use Rattle.wire.specs.Version.{stamp, version}
-use Rattle.wire.specs.Packet.{Packet, front_size, key_size, value_size, outlet_size, length_at, zero_at, head_of, front_of, head_ok, well_formed, Formed, read_call, reading_of, sent_in, write_call, writing_of, WriteGives}
-use Rattle.wire.specs.Numbers.{Out, left, malformed}
-use Rattle.wire.specs.declared.Reading.TheVariants.{Fields, Unread}
-use Rattle.wire.specs.declared.Writing.{Writing}
+use Rattle.wire.specs.Packet.{Packet, front_size, key_size, value_size, outlet_size, length_at, zero_at, head_of, front_of, head_ok, well_formed, Formed, read_call, sent_in, write_call, WriteGives}
+use Rattle.wire.specs.Numbers.{Out, refuse, ok, done, left, malformed}
 use Rattle.wire.specs.declared.Version.{Version}
 use Rattle.wire.specs.declared.Head.{Head}
 use Rattle.wire.proofs.Numbers.{Reflects, reflects_yes, reflects_no, reflects_cases, reflect_and, reflect_eqb, reflect_leb, pick_true, pick_false}
@@ -55,14 +53,14 @@ unformed p e t = (reflect_formed p).1 (sym e ∙ t)
 
 -- ---- what reading answers
 
-pub read_fields : (p : List ℕ) (h : Head) → Fields h ≡ reading_of (read_call p) → ReadView p h
+pub read_fields : (p : List ℕ) (h : Head) → ok h ≡ read_call p → ReadView p h
 read_fields p h e = go (reflects_cases (reflect_formed p))
   where
     go : Formed p ⊎ (Formed p → ⊥) → ReadView p h
     go (inl f) = let a = read_done p f in record { formed = f; head = cc }
     go (inr n) = let a = read_refused p n in absurd (let z : ◌≡◌ {A = ℕ} 0 1 = cc in omega arith)
 
-pub read_unread : (p : List ℕ) (n : ℕ) → Unread n ≡ reading_of (read_call p) → (n ≡ malformed) × (Formed p → ⊥)
+pub read_unread : (p : List ℕ) (n : ℕ) → refuse n ≡ read_call p → (n ≡ malformed) × (Formed p → ⊥)
 read_unread p n e = go (reflects_cases (reflect_formed p))
   where
     go : Formed p ⊎ (Formed p → ⊥) → (n ≡ malformed) × (Formed p → ⊥)
@@ -93,9 +91,9 @@ length_front h = refl
 -- ---- a packet that is written
 
 -- the promise of writing, by what the call came to
-pub gives : (out : List ℕ) (p : Packet) (o : Out Packet) (w : Writing) (out' : List ℕ) → write_call out p ≡ o → w ≡ writing_of o → out' ≡ left out (sent_in out) o
+pub gives : (out : List ℕ) (p : Packet) (o : Out Packet) (w : Out (Unit {0})) (out' : List ℕ) → write_call out p ≡ o → w ≡ done o → out' ≡ left out (sent_in out) o
     → WriteGives out p w out'
-gives out p o w out' e f g = record { answer = f ∙ ap writing_of (sym e); outlet = g ∙ ap (left out (sent_in out)) (sym e) }
+gives out p o w out' e f g = record { answer = f ∙ ap done (sym e); outlet = g ∙ ap (left out (sent_in out)) (sym e) }
 
 -- ---- the fields of enough bytes
 

@@ -4,9 +4,12 @@ use mathlib.Core.Path.{◌≡◌, sym, ◌∙◌}
 use mathlib.Core.List.{List}
 use Rattle.be.specs.Promise.{Exact}
 use Rattle.be.proofs.Promise.{equation, exact, pair}
-use Rattle.wire.specs.Packet.{Packet, read_call, reading_of, key_part, value_part, key_of as the_key, value_of as the_value, WriteGives}
-use Rattle.wire.specs.declared.Reading.{Reading}
-use Rattle.wire.specs.declared.Writing.{Writing}
+use Rattle.wire.specs.Packet.{Packet, read_call, key_part, value_part, key_of as the_key, value_of as the_value, WriteGives}
+use Rattle.std.specs.Prelude.{Result}
+use Rattle.wire.specs.Numbers.{said}
+use Rattle.wire.specs.declared.Head.{Head}
+use Rattle.wire.specs.declared.Refusal.{Refusal}
+use Rattle.wire.proofs.Answers.{said_once}
 use Rattle.packet.specs.Emit.{emitted}
 use Rattle.packet.proofs.read.Reads as read
 use Rattle.packet.proofs.key_of.Reads as key_of
@@ -17,7 +20,7 @@ use Rattle.packet.proofs.emit.Reads as emit
 use Rattle.packet.proofs.write.Reads as write
 
 pub read_exact : Exact read.Asked read.Learnt (λ r e. r)
-read_exact = equation
+read_exact = exact (λ _ _ r s _ _ p q. said_once r s (p ∙ sym q))
 
 pub key_of_exact : Exact key_of.Asked key_of.Learnt (λ r e. r.now)
 key_of_exact = equation
@@ -34,13 +37,13 @@ value_exact = equation
 pub emit_exact : Exact emit.Asked emit.Learnt (λ r e. e.0.now)
 emit_exact = equation
 
-pub write_exact : Exact {O = Writing × List ℕ} write.Asked write.Learnt (λ r e. (r, e.0.now))
-write_exact = exact (λ _ _ _ _ _ _ p q. pair (p.answer ∙ sym q.answer, p.outlet ∙ sym q.outlet))
+pub write_exact : Exact {O = Result (Unit {0}) Refusal × List ℕ} write.Asked write.Learnt (λ r e. (r, e.0.now))
+write_exact = exact (λ _ _ r s _ _ p q. pair (said_once r s (p.answer ∙ sym q.answer), p.outlet ∙ sym q.outlet))
 
 -- ---- the same with no call: no second outcome fits what a contract says
 
-pub read_once : (p : List ℕ) (r s : Reading) → r ≡ reading_of (read_call p) → s ≡ reading_of (read_call p) → r ≡ s
-read_once p r s e f = e ∙ sym f
+pub read_once : (p : List ℕ) (r s : Result Head Refusal) → said r ≡ read_call p → said s ≡ read_call p → r ≡ s
+read_once p r s e f = said_once r s (e ∙ sym f)
 
 pub key_once : (p k l : List ℕ) → k ≡ key_part p → l ≡ key_part p → k ≡ l
 key_once p k l e f = e ∙ sym f
@@ -57,5 +60,5 @@ value_of_once p v w e f = e ∙ sym f
 pub emit_once : (out a b : List ℕ) (p : Packet) → a ≡ emitted out p → b ≡ emitted out p → a ≡ b
 emit_once out a b p e f = e ∙ sym f
 
-pub write_once : (out a b : List ℕ) (p : Packet) (w x : Writing) → WriteGives out p w a → WriteGives out p x b → (w ≡ x) × (a ≡ b)
-write_once out a b p w x g h = (g.answer ∙ sym h.answer, g.outlet ∙ sym h.outlet)
+pub write_once : (out a b : List ℕ) (p : Packet) (w x : Result (Unit {0}) Refusal) → WriteGives out p (said w) a → WriteGives out p (said x) b → (w ≡ x) × (a ≡ b)
+write_once out a b p w x g h = (said_once w x (g.answer ∙ sym h.answer), g.outlet ∙ sym h.outlet)

@@ -3,10 +3,11 @@
 
 ghost use Rattle.std.specs.Prelude.{◌≡◌, ◌≤◌, length};
 ghost use Rattle.be.specs.Be.{put};
-ghost use Rattle.wire.specs.Packet.{front_size, key_size, value_size, outlet_size, head_of, key_of, value_of, front_of, back_of, query, shape_ok, head_ok, well_formed, read_call, reading_of, key_part, value_part, packet, packet_ok, sent_in, WriteGives};
+ghost use Rattle.wire.specs.Numbers.{said};
+ghost use Rattle.wire.specs.Packet.{front_size, key_size, value_size, outlet_size, head_of, key_of, value_of, front_of, back_of, query, shape_ok, head_ok, well_formed, read_call, key_part, value_part, packet, packet_ok, sent_in, WriteGives};
 ghost use Rattle.packet.specs.Emit.{session_at, emitted};
 
-use wire::{Head, Reading, Stamp, Version, Writing};
+use wire::{Answer, Head, Op, Refusal, Stamp, Version};
 
 // Where the session, the length, the zero byte and the key stand.
 const SESSION_AT: usize = 16;
@@ -41,9 +42,9 @@ fn query_ok(op: u8, n: u8, v: Version) -> bool
     let zero = v.is_zero();
     let orderly = v.is_orderly();
     let empty = n == 0;
-    let read = (op == wire::OP_READ) & (empty & zero);
-    let write = (op == wire::OP_WRITE) & orderly;
-    let delete = (op == wire::OP_DELETE) & (empty & orderly);
+    let read = (op == Op::Read as u8) & (empty & zero);
+    let write = (op == Op::Write as u8) & orderly;
+    let delete = (op == Op::Delete as u8) & (empty & orderly);
     read | (write | delete)
 }
 
@@ -55,20 +56,20 @@ fn answer_ok(answer: u8, op: u8, n: u8, v: Version) -> bool
     let zero = v.is_zero();
     let given = v.is_given();
     let empty = n == 0;
-    let value = (answer == wire::ANSWER_VALUE) & ((op == wire::OP_READ) & given);
-    let no_value = (answer == wire::ANSWER_NO_VALUE)
-        & ((op == wire::OP_READ) & (empty & (zero | given)));
-    let no_key = (answer == wire::ANSWER_NO_KEY)
-        & (((0 < op) & (op <= wire::OP_DELETE)) & (empty & zero));
-    let written = (answer == wire::ANSWER_WRITTEN)
-        & (((op == wire::OP_WRITE) | (op == wire::OP_DELETE)) & (empty & given));
+    let value = (answer == Answer::Value as u8) & ((op == Op::Read as u8) & given);
+    let no_value = (answer == Answer::NoValue as u8)
+        & ((op == Op::Read as u8) & (empty & (zero | given)));
+    let no_key = (answer == Answer::NoKey as u8)
+        & (((0 < op) & (op <= Op::Delete as u8)) & (empty & zero));
+    let written = (answer == Answer::Written as u8)
+        & (((op == Op::Write as u8) | (op == Op::Delete as u8)) & (empty & given));
     value | (no_value | (no_key | written))
 }
 
 fn shape_ok(answer: u8, op: u8, n: u8, v: Version) -> bool
     ensures { result ≡ shape_ok answer op n v }
 {
-    if answer == wire::QUERY {
+    if answer == Answer::Query as u8 {
         return query_ok(op, n, v);
     }
     answer_ok(answer, op, n, v)
@@ -91,13 +92,13 @@ fn well_formed(p: &[u8]) -> bool
 }
 
 // The fields of a packet.
-pub fn read(p: &[u8]) -> Reading
-    ensures { result ≡ reading_of (read_call p.now) }
+pub fn read(p: &[u8]) -> Result<Head, Refusal>
+    ensures { said result ≡ read_call p.now }
 {
     if well_formed(p) {
-        Reading::Fields(fields(p))
+        Ok(fields(p))
     } else {
-        Reading::Unread(wire::MALFORMED)
+        Err(Refusal::Malformed)
     }
 }
 
@@ -203,16 +204,16 @@ pub fn emit(out: &mut [u8], h: Head, key: &[u8], value: &[u8])
 }
 
 // A packet of anybody: judged, and written if it is one.
-pub fn write(out: &mut [u8], h: Head, key: &[u8], value: &[u8]) -> Writing
-    ensures { WriteGives out.old (packet h key.now value.now) result out.new }
+pub fn write(out: &mut [u8], h: Head, key: &[u8], value: &[u8]) -> Result<(), Refusal>
+    ensures { WriteGives out.old (packet h key.now value.now) (said result) out.new }
 {
     if out.len() < wire::OUTLET_SIZE {
-        return Writing::Unwritten(wire::SMALL_OUTLET);
+        return Err(Refusal::SmallOutlet);
     }
     if packet_ok(h, key, value) {
         put_packet(out, h, key, value);
-        Writing::Written
+        Ok(())
     } else {
-        Writing::Unwritten(wire::MALFORMED)
+        Err(Refusal::Malformed)
     }
 }

@@ -20,8 +20,7 @@ use Rattle.wire.specs.declared.Version.{Version}
 use Rattle.wire.proofs.Numbers.{or_false, and_left, and_right}
 use Rattle.store.specs.Table.{Slot, Table, free_slot, find}
 use Rattle.store.specs.Held.{Content, content_of}
-use Rattle.store.specs.declared.Found.{Found}
-use Rattle.store.specs.declared.Found.TheVariants.{At, Nothing}
+use Rattle.std.specs.Prelude.{Option, Some, None}
 use Rattle.steps.specs.declared.Joining.{Joining}
 use Rattle.steps.specs.declared.Change.{Change}
 use Rattle.steps.specs.declared.Change.TheVariants.{Still, Before, After}
@@ -192,10 +191,10 @@ never_10 = every_entry (λ x. x.number ≡ session_over → ⊥) (λ s r e en q.
     same : (a b : ℕ) → not (eqb a b) ≡ false → a ≡ b
     same a b e = eqb-true a b (not-false (eqb a b) e)
 
-    over : (s : State) → Reach s → (j : ℕ) (f : Found) (p : Packet) → p.head.version.session.0 ≡ s.chain.session.0
+    over : (s : State) → Reach s → (j : ℕ) (f : Option ℕ) (p : Packet) → p.head.version.session.0 ≡ s.chain.session.0
         → when_found (s.table j) f (λ x. less_session p.head.version.session x.version.session) ≡ true → ⊥
-    over s r j Nothing p e h = false≢true h
-    over s r j (At i) p e h = let l = sessions_low s r j i in let g = ltb-true p.head.version.session.0 _ h in omega arith
+    over s r j None p e h = false≢true h
+    over s r j (Some i) p e h = let l = sessions_low s r j i in let g = ltb-true p.head.version.session.0 _ h in omega arith
 
     node : (s : State) → Reach s → (j : ℕ) (p : Packet) → Enabled (at_node j p) s → Stopped session_over (node_tests (s.table j) p (find p.key (s.table j).slots)) → ⊥
     node s r j p en st =

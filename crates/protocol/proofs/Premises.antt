@@ -12,8 +12,7 @@ use Rattle.wire.specs.Packet.{Packet, packet, Fit, write, delete}
 use Rattle.wire.proofs.Numbers.{ok_inj}
 use Rattle.store.specs.Table.{Slot, find, free_slot}
 use Rattle.store.specs.Held.{holds, held}
-use Rattle.store.specs.declared.Found.{Found}
-use Rattle.store.specs.declared.Found.TheVariants.{At, Nothing}
+use Rattle.std.specs.Prelude.{Option, Some, None}
 use Rattle.steps.specs.declared.Change.TheVariants.{Still}
 use Rattle.steps.specs.declared.Chain.{Chain}
 use Rattle.steps.specs.Chain.{members, First}
@@ -99,9 +98,9 @@ HasKey k l = (i : ℕ) × (i < length l) × ((get_or l i free_slot).key ≡ k) �
 has_held : (k : List ℕ) (l : List Slot) → HasKey k l → (x : Slot) × (held k l ≡ holds x)
 has_held k l (i, below, key, used) = go (find k l) refl
   where
-    go : (f : Found) → find k l ≡ f → (x : Slot) × (held k l ≡ holds x)
-    go (At n) e = (get_or l n free_slot, stands_held (found_stands k l n e))
-    go Nothing e = absurd (used ((found_missing k l).0 e i below key))
+    go : (f : Option ℕ) → find k l ≡ f → (x : Slot) × (held k l ≡ holds x)
+    go (Some n) e = (get_or l n free_slot, stands_held (found_stands k l n e))
+    go None e = absurd (used ((found_missing k l).0 e i below key))
 
 way_inj : {i j : ℕ} {p q : Packet} → node i p ≡ node j q → (i ≡ j) × (p ≡ q)
 way_inj e = (cc, cc)

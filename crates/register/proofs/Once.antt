@@ -8,7 +8,7 @@ use Rattle.wire.specs.Numbers.{Out, refuse, ok, number_of, left}
 use Rattle.wire.specs.Packet.{sent_in}
 use Rattle.wire.proofs.Numbers.{left_refused, reflects_cases}
 use Rattle.steps.specs.declared.Chain.{Chain}
-use Rattle.steps.specs.declared.Outcome.{Outcome}
+use Rattle.steps.specs.Relay.{Outcome}
 use Rattle.steps.specs.Relay.{Way, node, client, relay_call, packet_sent, outcome_of}
 use Rattle.numbers.specs.Record.{chain_of, record_of, Stands}
 use Rattle.numbers.specs.Answers.{client_code, outcome_code}

@@ -18,7 +18,7 @@ use Rattle.wire.proofs.Packet.{writing_number_lem}
 use Rattle.store.specs.Table.{table_ok, fence_bytes}
 use Rattle.steps.specs.declared.Chain.{Chain}
 use Rattle.steps.specs.declared.Ruling.{Ruling}
-use Rattle.steps.specs.declared.Outcome.{Outcome}
+use Rattle.steps.specs.Relay.{Outcome}
 use Rattle.steps.specs.Relay.{relay_call, RelayGives}
 use Rattle.steps.specs.Chain.{most_nodes, chain_ok, start_chain, start_call}
 use Rattle.steps.specs.Control.{ChainGives, open_call, open_rows, fence_call, fence_rows, FenceGives, copy_call, copy_rows, copy_bytes, CopyGives, activate_call, activate_rows, cancel_call, cancel_rows, remove_call, remove_rows, enter_call, EnterGives}

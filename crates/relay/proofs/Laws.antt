@@ -17,8 +17,8 @@ use Rattle.wire.proofs.Numbers.{pick_true, pick_false, pick_case, pass_guard, st
 use Rattle.wire.proofs.Packet.{reflect_formed, ReadView}
 use Rattle.wire.proofs.RoundTrip.{fit_packet}
 use Rattle.steps.specs.declared.Chain.{Chain}
-use Rattle.steps.specs.declared.Outcome.{Outcome}
-use Rattle.steps.specs.declared.Outcome.TheVariants.{ToNode, ToClient, Dropped}
+use Rattle.steps.specs.Relay.{Outcome}
+use Rattle.steps.specs.declared.Destination.TheVariants.{ToNode, ToClient}
 use Rattle.steps.specs.Chain.{members, memb, first_of, last_of, next_of, chain_ok}
 use Rattle.steps.specs.Node.{is_read, Alters}
 use Rattle.steps.specs.Relay.{Way, node, client, to_node, to_client, from_client, onward, from_node, way_of, stops_way, stray_client, stray_node, packet_sent, outcome_of, outcome_number, relay_step, relay_call, RelayGives}
@@ -36,7 +36,7 @@ pub leaves_as : {out out' : List ℕ} {a b : Out Way} {o : Outcome} → a ≡ b 
 leaves_as {out} {out'} {o = o} e l = subst (λ (x : Out Way). Leaves out x o out') (sym e) l
 
 -- a refusal leaves the outlet as it was
-pub drops : {out : List ℕ} {a : Out Way} {n : ℕ} → a ≡ refuse n → Leaves out a (Dropped n) out
+pub drops : {out : List ℕ} {a : Out Way} {n : ℕ} → a ≡ refuse n → Leaves out a (refuse n) out
 drops e = leaves_as e (record { outcome = refl; outlet = refl })
 
 -- what a call promises
@@ -256,9 +256,9 @@ module _ {h : Head} {p out : List ℕ} (d : Ready h p out) where
         subst (λ (x : Head). g.length ≤ x.length) d.head (subst (λ (x : Head). x.length ≤ h.length) (sym e) (go o))
       where
         go : (o : Outcome) → (head_to r (read_as h p) o).length ≤ h.length
-        go (ToNode j) = node_length j
+        go (ok (ToNode j)) = node_length j
         go ToClient = client_length
-        go (Dropped n) = omega arith
+        go (refuse n) = omega arith
 
     -- the head for an outcome is that of the packet that the step sends
     sent_under : (w : Way) → relay_step r (read_as h p) ≡ ok w → under_head (head_to r (read_as h p) (outcome_of (ok w))) p ≡ packet_sent w

@@ -6,8 +6,8 @@ use Rattle.wire.specs.Packet.{Packet, packet, head_of, key_of, value_of, sent_in
 use Rattle.wire.specs.declared.Head.{Head}
 use Rattle.wire.specs.declared.Version.{Version}
 use Rattle.steps.specs.declared.Chain.{Chain}
-use Rattle.steps.specs.declared.Outcome.{Outcome}
-use Rattle.steps.specs.declared.Outcome.TheVariants.{ToNode, ToClient, Dropped}
+use Rattle.steps.specs.Relay.{Outcome}
+use Rattle.steps.specs.declared.Destination.TheVariants.{ToNode, ToClient}
 use Rattle.steps.specs.Node.{is_read}
 use Rattle.steps.specs.Relay.{Way, to_node, to_client, stops_way, packet_sent, outcome_of}
 
@@ -38,9 +38,9 @@ for_client p = pick (eqb p.head.answer query) (to_client answer_written [] p) (t
 
 -- the head for where a packet goes; what is dropped keeps its own
 abbrev pub head_to : Chain → Packet → Outcome → Head
-head_to r p (ToNode j) = (for_node r j p).head
+head_to r p (ok (ToNode j)) = (for_node r j p).head
 head_to r p ToClient = (for_client p).head
-head_to r p (Dropped n) = p.head
+head_to r p (refuse n) = p.head
 
 -- a packet under another head: its key, and as much of its value as the head says
 abbrev pub under_head : Head → List ℕ → Packet

@@ -14,8 +14,7 @@ use Rattle.wire.proofs.Numbers.{judged, comparisons, or_false, Reflects, reflect
 use Rattle.store.specs.Table.{Slot, table_of, table_ok, TableRules, find, lowest_free, free_slot, free}
 use Rattle.store.proofs.Find.{free_none, none_free, reflect_free}
 use Rattle.store.proofs.Rules.{reflect_table}
-use Rattle.store.specs.declared.Found.{Found}
-use Rattle.store.specs.declared.Found.TheVariants.{At, Nothing}
+use Rattle.std.specs.Prelude.{Option, Some, None}
 use Rattle.steps.specs.declared.Joining.{Joining}
 use Rattle.steps.specs.declared.Change.{Change}
 use Rattle.steps.specs.declared.Change.TheVariants.{Still, Before, After}
@@ -59,9 +58,9 @@ reflect_while ch {b} {P} r = reflect_iff (reflect_when ch (λ j. b) (λ j. P) (�
 
 -- ---- tests of a table
 
-reflect_nothing : (f : Found) → Reflects (is_nothing f) (f ≡ Nothing)
-reflect_nothing Nothing = reflect_true refl
-reflect_nothing (At i) = reflect_false at_nothing
+reflect_nothing : (f : Option ℕ) → Reflects (is_nothing f) (f ≡ None)
+reflect_nothing None = reflect_true refl
+reflect_nothing (Some i) = reflect_false at_nothing
 
 reflect_missing : (k : List ℕ) (l : List Slot) → Reflects (is_nothing (find k l)) (Missing k l)
 reflect_missing k l = reflect_iff (reflect_nothing (find k l)) (found_missing k l)

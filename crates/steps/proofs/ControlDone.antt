@@ -10,8 +10,7 @@ use Rattle.wire.specs.Numbers.{ok, Applies}
 use Rattle.wire.specs.Version.{top_stamp, top_session}
 use Rattle.wire.proofs.Numbers.{judged_gives, past, past_all, reflects_yes, reflects_no}
 use Rattle.store.specs.Table.{table_of, TableRules, lowest_free, free_slot, free, entered_slot, set_row}
-use Rattle.store.specs.declared.Found.{Found}
-use Rattle.store.specs.declared.Found.TheVariants.{At}
+use Rattle.std.specs.Prelude.{Option, Some}
 use Rattle.store.proofs.Find.{at_free, reflect_free}
 use Rattle.steps.specs.declared.Joining.{Joining}
 use Rattle.steps.specs.declared.Change.{Change}
@@ -90,9 +89,9 @@ module _ (r : Chain) (rules : ChainRules r) where
     unfolding enter_call enter_step
     enter_done t id key i good member meant count missing below empty lowest =
         judged_gives (enter_rows r t id key) (enter_call r t id key) (set_row i (entered_slot key)) (enter_judged r t id key)
-        (λ b e. ap (λ (f : Found). ok (enter_at key f)) (sym at) ∙ (past_all (enter_tests r (table_of t) id key) _ b (past _ _ _ _ e).1).1) none
+        (λ b e. ap (λ (f : Option ℕ). ok (enter_at key f)) (sym at) ∙ (past_all (enter_tests r (table_of t) id key) _ b (past _ _ _ _ e).1).1) none
       where
-        at : lowest_free (table_of t).slots ≡ At i
+        at : lowest_free (table_of t).slots ≡ Some i
         at =
             at_free (table_of t).slots i
             (record { below = below; passes = reflects_yes (reflect_free _) empty; lowest = λ j l. reflects_no (reflect_free _) (lowest j l) })

@@ -20,7 +20,6 @@ use Rattle.store.proofs.Rules.{rules_fence, length_table}
 use Rattle.store.proofs.Rows.{length_row, row_same, row_other, length_row_put, table_copy, length_fence, head_fence, table_fence}
 use Rattle.steps.specs.declared.Change.{Change}
 use Rattle.steps.specs.declared.Chain.{Chain}
-use Rattle.steps.specs.declared.Ruling.{Ruling}
 use Rattle.steps.specs.Chain.{ChainRules, joining, with_change}
 use Rattle.steps.specs.Control.{ChainGives, change_for, fence_call, FenceGives, copy_call, copy_bytes, copy_slot, CopyGives, enter_call, EnterGives}
 use Rattle.steps.proofs.ControlViews.{Joins, fence_call_lem, copy_call_lem, enter_call_lem, fence_view, copy_view, enter_view}
@@ -168,10 +167,6 @@ pub enter_refused : {r : Chain} {t : List ℕ} {id : ℕ} {key : List ℕ} {n : 
 enter_refused {r} {t} {id} {key} g h = g.table ∙ left_refused (enter_call r t id key) t (λ w. write_bytes w t) g.number h
 
 -- ---- no second outcome fits a promise
-
--- answers with the same number and the same record are the same
-pub ruling : {r s : Ruling} → (r.number ≡ s.number) × (r.chain ≡ s.chain) → r ≡ s
-ruling p i = record { number = p.0 i; chain = p.1 i }
 
 pub chain_once : {r : Chain} {o : Out Chain} {m n : ℕ} {r₁ r₂ : Chain} → ChainGives r o m r₁ → ChainGives r o n r₂ → (m ≡ n) × (r₁ ≡ r₂)
 chain_once g h = (g.number ∙ sym h.number, g.chain ∙ sym h.chain)

@@ -16,8 +16,7 @@ use Rattle.wire.specs.declared.Stamp.{Stamp}
 use Rattle.wire.specs.declared.Session.{Session}
 use Rattle.store.proofs.Rules.{reflect_table}
 use Rattle.store.specs.Table.{Table, table_of, TableRules, Zero, find, lowest_free, entered_slot, Write, set_row}
-use Rattle.store.specs.declared.Found.{Found}
-use Rattle.store.specs.declared.Found.TheVariants.{At, Nothing}
+use Rattle.std.specs.Prelude.{Option, Some, None}
 use Rattle.steps.specs.declared.Joining.{Joining}
 use Rattle.steps.specs.declared.Change.{Change}
 use Rattle.steps.specs.declared.Change.TheVariants.{Still, Before, After}
@@ -390,9 +389,9 @@ pub record EnterView (r : Chain) (t : Table) (id : ℕ) (key : List ℕ) (w : Wr
   pub member : Mem id (members r)
   pub meant : t.id ≡ id
   pub count : length t.slots ≡ r.count
-  pub fresh : find key t.slots ≡ Nothing
+  pub fresh : find key t.slots ≡ None
   pub place : ℕ
-  pub lowest : lowest_free t.slots ≡ At place
+  pub lowest : lowest_free t.slots ≡ Some place
   pub write : w ≡ set_row place (entered_slot key)
 
 pub enter_view : (r : Chain) (t : Table) (id : ℕ) (key : List ℕ) (w : Write) → enter_step r t id key ≡ ok w → EnterView r t id key w
@@ -412,10 +411,10 @@ enter_view r t id key w e =
       write = sym (ok_inj q) ∙ ap (enter_at key) at;
     }
   where
-    nothing : (f : Found) → is_nothing f ≡ true → f ≡ Nothing
-    nothing Nothing e = refl
-    nothing (At i) e = absurd (false≢true e)
+    nothing : (f : Option ℕ) → is_nothing f ≡ true → f ≡ None
+    nothing None e = refl
+    nothing (Some i) e = absurd (false≢true e)
 
-    found : (f : Found) → is_nothing f ≡ false → (i : ℕ) × (f ≡ At i)
-    found Nothing e = absurd (true≢false e)
-    found (At i) e = (i, refl)
+    found : (f : Option ℕ) → is_nothing f ≡ false → (i : ℕ) × (f ≡ Some i)
+    found None e = absurd (true≢false e)
+    found (Some i) e = (i, refl)

@@ -16,8 +16,7 @@ use Rattle.wire.proofs.Numbers.{past, pass_guard, Reflects, reflects_cases, refl
 use Rattle.wire.proofs.Versions.{reflect_newer}
 use Rattle.wire.proofs.Packet.{reflect_formed}
 use Rattle.store.specs.Table.{Slot, Table, table_of, table_ok, TableRules, has, find, free_slot, free}
-use Rattle.store.specs.declared.Found.{Found}
-use Rattle.store.specs.declared.Found.TheVariants.{At, Nothing}
+use Rattle.std.specs.Prelude.{Option, Some, None}
 use Rattle.store.proofs.Rules.{reflect_table}
 use Rattle.store.proofs.Find.{find_at, at_find, find_none, none_find, reflect_has}
 use Rattle.steps.specs.Node.{Sent, node_step, node_call, node_tests, node_does, when_found, is_nothing, is_read, is_numbered, is_unnumbered, Alters, Numbered, Unnumbered, Stands, Missing, AtKey, node_step_rows, node_rows}
@@ -32,13 +31,13 @@ stable r n = ⊎_elim (λ h. h) (λ d. absurd (n d)) (reflects_cases r)
 unused : (k : List ℕ) (s : Slot) → (has k s ≡ false) ↔ (s.key ≡ k → s.state ≡ free)
 unused k s = (λ e h. stable (reflect_eqb _ _) (λ n. (reflect_has k s).1 e (n, h)), λ f. reflects_no (reflect_has k s) (λ p. p.0 (f p.1)))
 
-pub found_stands : (k : List ℕ) (l : List Slot) (i : ℕ) → find k l ≡ At i → Stands k l i (get_or l i free_slot)
+pub found_stands : (k : List ℕ) (l : List Slot) (i : ℕ) → find k l ≡ Some i → Stands k l i (get_or l i free_slot)
 found_stands k l i e =
     let a = find_at k l i e in
     let h = (reflect_has k (get_or l i free_slot)).0 a.passes in
     record { below = a.below; at = refl; used = h.0; key = h.1; lowest = λ j b. (unused k (get_or l j free_slot)).0 (a.lowest j b) }
 
-pub stands_found : {k : List ℕ} {l : List Slot} {i : ℕ} {s : Slot} → Stands k l i s → find k l ≡ At i
+pub stands_found : {k : List ℕ} {l : List Slot} {i : ℕ} {s : Slot} → Stands k l i s → find k l ≡ Some i
 stands_found {k} {l} {i} {s} h =
     at_find k l i
     (record {
@@ -47,14 +46,14 @@ stands_found {k} {l} {i} {s} h =
       lowest = λ j b. (unused k (get_or l j free_slot)).1 (h.lowest j b);
     })
 
-pub found_missing : (k : List ℕ) (l : List Slot) → (find k l ≡ Nothing) ↔ Missing k l
+pub found_missing : (k : List ℕ) (l : List Slot) → (find k l ≡ None) ↔ Missing k l
 found_missing k l =
     (λ e j b. (unused k (get_or l j free_slot)).0 (find_none k l e j b), λ m. none_find k l (λ j b. (unused k (get_or l j free_slot)).1 (m j b)))
 
-pub at_inj : {i j : ℕ} → ◌≡◌ {A = Found} (At i) (At j) → i ≡ j
+pub at_inj : {i j : ℕ} → ◌≡◌ {A = Option ℕ} (Some i) (Some j) → i ≡ j
 at_inj e = cc
 
-pub at_nothing : {i : ℕ} → ◌≡◌ {A = Found} (At i) Nothing → ⊥
+pub at_nothing : {i : ℕ} → ◌≡◌ {A = Option ℕ} (Some i) None → ⊥
 at_nothing e = let z : ◌≡◌ {A = ℕ} 0 1 = cc in omega arith
 
 -- ---- the rows
@@ -74,13 +73,13 @@ pub reflect_unnumbered : (p : Packet) → Reflects (is_unnumbered p) (Unnumbered
 reflect_unnumbered p = reflect_and (reflect_alters p) (reflect_eqb _ _)
 
 module _ (t : Table) (p : Packet) where
-  reflect_missing : (f : Found) → find p.key t.slots ≡ f → Reflects (is_nothing f) (Missing p.key t.slots)
-  reflect_missing Nothing e = reflect_true ((found_missing p.key t.slots).0 e)
-  reflect_missing (At i) e = reflect_false (λ m. at_nothing (sym e ∙ (found_missing p.key t.slots).1 m))
+  reflect_missing : (f : Option ℕ) → find p.key t.slots ≡ f → Reflects (is_nothing f) (Missing p.key t.slots)
+  reflect_missing None e = reflect_true ((found_missing p.key t.slots).0 e)
+  reflect_missing (Some i) e = reflect_false (λ m. at_nothing (sym e ∙ (found_missing p.key t.slots).1 m))
 
-  reflect_at : (f : Found) → find p.key t.slots ≡ f → (b : Slot → Bool) (P : Slot → Type 0) → ((s : Slot) → Reflects (b s) (P s)) → Reflects (when_found t f b) (AtKey t p P)
-  reflect_at Nothing e b P r = reflect_false (λ h. at_nothing (sym (stands_found h.2) ∙ e))
-  reflect_at (At i) e b P r =
+  reflect_at : (f : Option ℕ) → find p.key t.slots ≡ f → (b : Slot → Bool) (P : Slot → Type 0) → ((s : Slot) → Reflects (b s) (P s)) → Reflects (when_found t f b) (AtKey t p P)
+  reflect_at None e b P r = reflect_false (λ h. at_nothing (sym (stands_found h.2) ∙ e))
+  reflect_at (Some i) e b P r =
       reflect_iff (r (get_or t.slots i free_slot)) (
         λ h. (i, get_or t.slots i free_slot, found_stands p.key t.slots i e, h),
         λ h.
@@ -89,7 +88,7 @@ module _ (t : Table) (p : Packet) where
       )
 
   -- each test stands for its row
-  pub node_matches : (f : Found) → find p.key t.slots ≡ f → Matches (node_tests t p f) (node_step_rows t p)
+  pub node_matches : (f : Option ℕ) → find p.key t.slots ≡ f → Matches (node_tests t p f) (node_step_rows t p)
   node_matches f e = (
     refl,
     reflect_or (reflect_not (reflect_eqb _ _)) (reflect_or (reflect_not (reflect_eqb _ _)) (reflect_not (reflect_eqb _ _))),

@@ -11,8 +11,7 @@ use Rattle.wire.specs.declared.Session.{Session}
 use Rattle.wire.proofs.Numbers.{judged_done}
 use Rattle.store.specs.Table.{Slot, Table, find}
 use Rattle.store.specs.Held.{missing, holds, held}
-use Rattle.store.specs.declared.Found.{Found}
-use Rattle.store.specs.declared.Found.TheVariants.{At, Nothing}
+use Rattle.std.specs.Prelude.{Option, Some, None}
 use Rattle.store.proofs.Find.{held_find, held_at}
 use Rattle.steps.specs.Node.{node_step, Sent, Alters, Numbered, Unnumbered, Stands, Missing, node_step_rows}
 use Rattle.steps.proofs.Node.{found_stands, stands_found, found_missing, step_judged}
@@ -35,9 +34,9 @@ holds_missing e = let z : ◌≡◌ {A = ℕ} 0 1 = cc in omega arith
 pub held_stands : (k : List ℕ) (l : List Slot) (s : Slot) → held k l ≡ holds s → (i : ℕ) × Stands k l i s
 held_stands k l s e = go (find k l) refl
   where
-    go : (f : Found) → find k l ≡ f → (i : ℕ) × Stands k l i s
-    go (At i) found = (i, subst (Stands k l i) (holds_inj (sym (held_find k l ∙ ap (held_at l) found) ∙ e)) (found_stands k l i found))
-    go Nothing none = absurd (holds_missing (sym e ∙ (held_find k l ∙ ap (held_at l) none)))
+    go : (f : Option ℕ) → find k l ≡ f → (i : ℕ) × Stands k l i s
+    go (Some i) found = (i, subst (Stands k l i) (holds_inj (sym (held_find k l ∙ ap (held_at l) found) ∙ e)) (found_stands k l i found))
+    go None none = absurd (holds_missing (sym e ∙ (held_find k l ∙ ap (held_at l) none)))
 
 -- ---- the packets
 

@@ -15,8 +15,7 @@ use Rattle.wire.specs.declared.Version.{Version}
 use Rattle.wire.proofs.Numbers.{pick_case, reflects_yes, judged_done}
 use Rattle.store.specs.Table.{Slot, Table, table_of, table_ok, has, find, free_slot, free, valued, Write, keep, set_row, write_bytes, write_table}
 use Rattle.store.specs.Held.{Held, missing, holds, held, wrote, gone, held_version, held_content, version_at, content_at}
-use Rattle.store.specs.declared.Found.{Found}
-use Rattle.store.specs.declared.Found.TheVariants.{At, Nothing}
+use Rattle.std.specs.Prelude.{Option, Some, None}
 use Rattle.store.proofs.Rules.{reflect_table}
 use Rattle.store.proofs.Find.{find_at, reflect_has, has_other, first_skip, held_set, held_other}
 use Rattle.steps.specs.Node.{Sent, reply, stored, absent, answered as answer_of, taken, at_slot, node_step, node_call, node_rows, Alters}
@@ -85,18 +84,18 @@ length_after (set_row i s) t = length-set t.slots i s
 
 -- a step looks at a table's fence and id, and at the slot that has the key
 module _ (t u : Table) (q : Packet) (fence : t.fence ≡ u.fence) (id : t.id ≡ u.id) where
-  step_same : (f : Found) → ((i : ℕ) → f ≡ At i → get_or t.slots i free_slot ≡ get_or u.slots i free_slot) → find q.key t.slots ≡ f → find q.key u.slots ≡ f
+  step_same : (f : Option ℕ) → ((i : ℕ) → f ≡ Some i → get_or t.slots i free_slot ≡ get_or u.slots i free_slot) → find q.key t.slots ≡ f → find q.key u.slots ≡ f
       → node_step t q ≡ node_step u q
   unfolding node_step absent at_slot answer_of taken
-  step_same (At i) same e d = rw (e, d, same i refl, fence, id)
-  step_same Nothing same e d = rw (e, d, fence, id)
+  step_same (Some i) same e d = rw (e, d, same i refl, fence, id)
+  step_same None same e d = rw (e, d, fence, id)
 
 -- what a node does with every other key stays
 pub step_others : {t : Table} {p : Packet} {x : Sent} {before : Slot} {v : Version} → Stores t p x before v → (q : Packet) → (q.key ≡ p.key → ⊥)
     → node_step (write_table x.write t) q ≡ node_step t q
 step_others {t} {p} {x} {before} {v} c q n = step_same (write_table x.write t) t q refl refl (find q.key t.slots) same (find_others c q.key n) refl
   where
-    same : (i : ℕ) → find q.key t.slots ≡ At i → get_or (write_table x.write t).slots i free_slot ≡ get_or t.slots i free_slot
+    same : (i : ℕ) → find q.key t.slots ≡ Some i → get_or (write_table x.write t).slots i free_slot ≡ get_or t.slots i free_slot
     same i e =
         ap (λ (l : List Slot). get_or l i free_slot) (slots_after c)
         ∙ get_or-set_other t.slots c.place i (stored p v) free_slot

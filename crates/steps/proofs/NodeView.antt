@@ -16,8 +16,7 @@ use Rattle.wire.proofs.Numbers.{pick_true, pick_false, pick_case, ok_inj, past_a
 use Rattle.wire.proofs.Versions.{reflect_newer, next_sequence_lem}
 use Rattle.store.specs.Table.{Slot, Table, find, free_slot, valued, deleted, keep, set_row}
 use Rattle.store.specs.Held.{Held, missing, holds, held, nothing, wrote, gone, content_of, held_version, version_at}
-use Rattle.store.specs.declared.Found.{Found}
-use Rattle.store.specs.declared.Found.TheVariants.{At, Nothing}
+use Rattle.std.specs.Prelude.{Option, Some, None}
 use Rattle.store.proofs.Find.{held_find, held_at}
 use Rattle.steps.specs.Node.{node_step, node_tests, node_does, reply, Sent, sent, absent, answered as answer_of, given, version_for, stored, taken, at_slot, Alters, Numbered, Unnumbered, Stands, AtKey, node_step_rows}
 use Rattle.steps.proofs.Node.{stable, found_stands, found_missing, reflect_unnumbered, step_judged}
@@ -59,7 +58,7 @@ pub record NoKey (t : Table) (p : Packet) (x : Sent) : Type 0 where
 -- a write or delete is stored under a version, in the place of the slot before, and goes on with it
 pub record Stores (t : Table) (p : Packet) (x : Sent) (before : Slot) (v : Version) : Type 0 where
   pub place : ℕ
-  pub found : find p.key t.slots ≡ At place
+  pub found : find p.key t.slots ≡ Some place
   pub holding : held p.key t.slots ≡ holds before
   pub session : p.head.version.session.0 ≡ 0 → ⊥
   pub rises : Below before.version v
@@ -169,7 +168,7 @@ module _ (t : Table) (p : Packet) (x : Sent) (clear : (n : ℕ) → Applies (nod
   }
 
   -- of a missing key
-  missing_case : find p.key t.slots ≡ Nothing → x ≡ absent t p → NodeCase t p x
+  missing_case : find p.key t.slots ≡ None → x ≡ absent t p → NodeCase t p x
   unfolding absent
   missing_case none e = go (reflects_cases (reflect_eqb p.head.op op_read)) (reflects_cases (reflect_eqb p.head.version.sequence.0 0))
     where
@@ -191,7 +190,7 @@ module _ (t : Table) (p : Packet) (x : Sent) (clear : (n : ℕ) → Applies (nod
       go (inr a) (inr q) = absurd (clear _ (inr (inr (inr (inl (refl, ((a, q), (found_missing _ _).0 none)))))))
 
   -- of a key that is there
-  module _ (i : ℕ) (s : Slot) (found : find p.key t.slots ≡ At i) (at : get_or t.slots i free_slot ≡ s) (e : x ≡ at_slot t p i s) where
+  module _ (i : ℕ) (s : Slot) (found : find p.key t.slots ≡ Some i) (at : get_or t.slots i free_slot ≡ s) (e : x ≡ at_slot t p i s) where
     holding : held p.key t.slots ≡ holds s
     holding = held_find p.key t.slots ∙ (ap (held_at t.slots) found ∙ ap holds at)
 
@@ -290,6 +289,6 @@ node_view t p x e = record { accepted = accepts t p x clear; case = go (find p.k
     clear : (n : ℕ) → Applies (node_step_rows t p) n → ⊥
     clear = (judged_done (node_step_rows t p) (node_step t p) (step_judged t p)).0 (x, e)
 
-    go : (f : Found) → find p.key t.slots ≡ f → x ≡ node_does t p f → NodeCase t p x
-    go Nothing none d = missing_case t p x clear none d
-    go (At i) found d = there_case t p x clear i (get_or t.slots i free_slot) found refl d
+    go : (f : Option ℕ) → find p.key t.slots ≡ f → x ≡ node_does t p f → NodeCase t p x
+    go None none d = missing_case t p x clear none d
+    go (Some i) found d = there_case t p x clear i (get_or t.slots i free_slot) found refl d

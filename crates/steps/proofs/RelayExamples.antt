@@ -5,16 +5,15 @@ use mathlib.Core.List.{List, [], ◌∷◌, map}
 use mathlib.Core.Bool.{true, false}
 use lib.ListN.{drop, replicate}
 use Rattle.be.specs.Be.{put}
-use Rattle.wire.specs.Numbers.{left, pick, guard}
+use Rattle.wire.specs.Numbers.{ok, refuse, left, pick, guard}
 use Rattle.wire.specs.Version.{version}
 use Rattle.wire.specs.Packet.{head_of, key_of, value_of, packet_of, front_of, back_of, bytes_of, head_ok, well_formed, sent_in}
 use Rattle.steps.specs.declared.Change.{Change}
 use Rattle.steps.specs.declared.Change.TheVariants.{Still, Before, After}
 use Rattle.steps.specs.declared.Chain.{Chain}
-use Rattle.steps.specs.declared.Outcome.{Outcome}
-use Rattle.steps.specs.declared.Outcome.TheVariants.{ToNode, ToClient, Dropped}
+use Rattle.steps.specs.declared.Destination.TheVariants.{ToNode, ToClient}
 use Rattle.steps.specs.Chain.{joining, memb, first_of, last_of, next_of, apart, none_above, joining_ok, chain_ok}
-use Rattle.steps.specs.Relay.{to_node, to_client, from_client, onward, from_node, way_of, relay_step, relay_call, packet_sent, outcome_of}
+use Rattle.steps.specs.Relay.{Outcome, to_node, to_client, from_client, onward, from_node, way_of, relay_step, relay_call, packet_sent, outcome_of}
 use Rattle.steps.specs.Marked.{packet_bytes, Asked}
 use Rattle.steps.proofs.ChainExamples.{chain_of}
 
@@ -66,13 +65,13 @@ pub record Call : Type 0 where
 
 -- sent to a node, to the client, or dropped: record, packet, and what is sent
 abbrev to_node_sent : Chain → List ℕ → ℕ → Asked → Call
-to_node_sent r p j a = record { chain = r; packet = p; size = 168; outcome = ToNode j; outlet = put (outlet 168) 0 (packet_bytes 0 j 0 6 a) }
+to_node_sent r p j a = record { chain = r; packet = p; size = 168; outcome = ok (ToNode j); outlet = put (outlet 168) 0 (packet_bytes 0 j 0 6 a) }
 
 abbrev to_client_sent : Chain → List ℕ → ℕ → Asked → Call
-to_client_sent r p answer a = record { chain = r; packet = p; size = 168; outcome = ToClient; outlet = put (outlet 168) 0 (packet_bytes 0 0 answer 0 a) }
+to_client_sent r p answer a = record { chain = r; packet = p; size = 168; outcome = ok ToClient; outlet = put (outlet 168) 0 (packet_bytes 0 0 answer 0 a) }
 
 abbrev dropped_at : Chain → List ℕ → ℕ → ℕ → Call
-dropped_at r p size n = record { chain = r; packet = p; size = size; outcome = Dropped n; outlet = outlet size }
+dropped_at r p size n = record { chain = r; packet = p; size = size; outcome = refuse n; outlet = outlet size }
 
 abbrev dropped : Chain → List ℕ → ℕ → Call
 dropped r p n = dropped_at r p 168 n

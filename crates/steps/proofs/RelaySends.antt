@@ -11,12 +11,12 @@ use Rattle.wire.specs.Numbers.{Out, refuse, ok, number_of, left}
 use Rattle.wire.specs.Version.{sequence}
 use Rattle.wire.specs.Packet.{Packet, packet_of, sent_in, Shape, read as is_read, write as is_write, delete as is_delete, value as is_value, never_written as is_never, deleted as is_deleted, no_key as is_no_key, written as is_written, value_size, op_write, op_delete, query, answer_written}
 use Rattle.wire.specs.declared.Version.{Version}
+use Rattle.wire.proofs.Numbers.{refuse_inj}
 use Rattle.steps.specs.declared.Chain.{Chain}
-use Rattle.steps.specs.declared.Outcome.{Outcome}
-use Rattle.steps.specs.declared.Outcome.TheVariants.{ToNode, ToClient, Dropped}
+use Rattle.steps.specs.declared.Destination.TheVariants.{ToNode, ToClient}
 use Rattle.steps.specs.Chain.{members, first_of, last_of, next_of, ChainRules}
 use Rattle.steps.specs.Node.{Numbered}
-use Rattle.steps.specs.Relay.{Way, node, client, to_node, to_client, packet_sent, outcome_of, outcome_number, relay_step, relay_call, RelayGives}
+use Rattle.steps.specs.Relay.{Outcome, Way, node, client, to_node, to_client, packet_sent, outcome_of, outcome_number, relay_step, relay_call, RelayGives}
 use Rattle.steps.proofs.ChainIds.{first_mem, last_mem}
 use Rattle.steps.proofs.ChainOrder.{next_mem}
 use Rattle.steps.proofs.Relay.{some, relay_called}
@@ -147,9 +147,6 @@ outcome_number_lem (refuse n) = refl
 outcome_number_lem (ok (node j p)) = refl
 outcome_number_lem (ok (client p)) = refl
 
-dropped_inj : {m n : ℕ} → Dropped m ≡ Dropped n → m ≡ n
-dropped_inj e = cc
-
 module _ {r : Chain} {p out : List ℕ} where
   -- no second outcome fits
   pub relay_once : {o₁ o₂ : Outcome} {out₁ out₂ : List ℕ} → RelayGives r p out o₁ out₁ → RelayGives r p out o₂ out₂ → (o₁ ≡ o₂) × (out₁ ≡ out₂)
@@ -160,28 +157,28 @@ module _ {r : Chain} {p out : List ℕ} where
   relay_number_lem g = ap outcome_number g.outcome ∙ outcome_number_lem (relay_call r p out)
 
   -- a packet that is dropped leaves the outlet as it was
-  pub relay_dropped : {n : ℕ} {out' : List ℕ} → RelayGives r p out (Dropped n) out' → (relay_call r p out ≡ refuse n) × (out' ≡ out)
+  pub relay_dropped : {n : ℕ} {out' : List ℕ} → RelayGives r p out (refuse n) out' → (relay_call r p out ≡ refuse n) × (out' ≡ out)
   relay_dropped {n} {out'} g = go (relay_call r p out) refl g.outcome g.outlet
     where
-      go : (o : Out Way) → relay_call r p out ≡ o → Dropped n ≡ outcome_of o → ◌≡◌ {A = List ℕ} out' (left out (λ w. sent_in out (packet_sent w)) o) → (relay_call r p out ≡ refuse n) × (out' ≡ out)
-      go (refuse m) d e a = (d ∙ ap refuse (sym (dropped_inj e)), a)
+      go : (o : Out Way) → relay_call r p out ≡ o → refuse n ≡ outcome_of o → ◌≡◌ {A = List ℕ} out' (left out (λ w. sent_in out (packet_sent w)) o) → (relay_call r p out ≡ refuse n) × (out' ≡ out)
+      go (refuse m) d e a = (d ∙ ap refuse (sym (refuse_inj e)), a)
       go (ok (node j q)) d e a = absurd (let z : ◌≡◌ {A = ℕ} 0 1 = cc in omega arith)
       go (ok (client q)) d e a = absurd (let z : ◌≡◌ {A = ℕ} 0 1 = cc in omega arith)
 
   -- one that is sent stands in the outlet
-  pub relay_to_node : {j : ℕ} {out' : List ℕ} → RelayGives r p out (ToNode j) out' → (q : Packet) × (relay_call r p out ≡ ok (node j q)) × (out' ≡ sent_in out q)
+  pub relay_to_node : {j : ℕ} {out' : List ℕ} → RelayGives r p out (ok (ToNode j)) out' → (q : Packet) × (relay_call r p out ≡ ok (node j q)) × (out' ≡ sent_in out q)
   relay_to_node {j} {out'} g = go (relay_call r p out) refl g.outcome g.outlet
     where
-      go : (o : Out Way) → relay_call r p out ≡ o → ToNode j ≡ outcome_of o → ◌≡◌ {A = List ℕ} out' (left out (λ w. sent_in out (packet_sent w)) o)
+      go : (o : Out Way) → relay_call r p out ≡ o → ok (ToNode j) ≡ outcome_of o → ◌≡◌ {A = List ℕ} out' (left out (λ w. sent_in out (packet_sent w)) o)
           → (q : Packet) × (relay_call r p out ≡ ok (node j q)) × (out' ≡ sent_in out q)
       go (refuse m) d e a = absurd (let z : ◌≡◌ {A = ℕ} 0 1 = cc in omega arith)
       go (ok (node i q)) d e a = (q, d ∙ ap (λ (k : ℕ). ok (node k q)) (sym (let f : j ≡ i = cc in f)), a)
       go (ok (client q)) d e a = absurd (let z : ◌≡◌ {A = ℕ} 0 1 = cc in omega arith)
 
-  pub relay_to_client : {out' : List ℕ} → RelayGives r p out ToClient out' → (q : Packet) × (relay_call r p out ≡ ok (client q)) × (out' ≡ sent_in out q)
+  pub relay_to_client : {out' : List ℕ} → RelayGives r p out (ok ToClient) out' → (q : Packet) × (relay_call r p out ≡ ok (client q)) × (out' ≡ sent_in out q)
   relay_to_client {out'} g = go (relay_call r p out) refl g.outcome g.outlet
     where
-      go : (o : Out Way) → relay_call r p out ≡ o → ToClient ≡ outcome_of o → ◌≡◌ {A = List ℕ} out' (left out (λ w. sent_in out (packet_sent w)) o)
+      go : (o : Out Way) → relay_call r p out ≡ o → ok ToClient ≡ outcome_of o → ◌≡◌ {A = List ℕ} out' (left out (λ w. sent_in out (packet_sent w)) o)
           → (q : Packet) × (relay_call r p out ≡ ok (client q)) × (out' ≡ sent_in out q)
       go (refuse m) d e a = absurd (let z : ◌≡◌ {A = ℕ} 0 1 = cc in omega arith)
       go (ok (node i q)) d e a = absurd (let z : ◌≡◌ {A = ℕ} 0 1 = cc in omega arith)

@@ -1,5 +1,5 @@
 -- Document 01, "Chain record": the eight places, the state of change, and all rules of a record.
-use Rattle.std.specs.Prelude.{ℕ, suc, ◌+◌, ◌-◌, ◌<◌, ◌≤◌, ◌≡◌, Bool, true, false, ◌&&◌, ◌||◌, not, length, take, drop, ltb, leb, eqb}
+use Rattle.std.specs.Prelude.{ℕ, suc, ◌+◌, ◌-◌, ◌<◌, ◌≤◌, ◌≡◌, Bool, true, false, ◌&&◌, ◌||◌, not, length, take, drop, ltb, leb, eqb, Option, Some, None}
 use mathlib.Core.List.{List, [], ◌∷◌, ◌++◌, Memᴰ as Mem}
 use Rattle.wire.specs.Numbers.{Out, ok, judge, test, Case, case, broken, pick}
 use Rattle.wire.specs.Version.{session, stamp}
@@ -71,6 +71,12 @@ abbrev pub is_open : Change → Bool
 is_open Still = false
 is_open (Before j) = true
 is_open (After j) = true
+
+-- the node that joins, on either side
+abbrev pub joined : Change → Option Joining
+joined Still = None
+joined (Before j) = Some j
+joined (After j) = Some j
 
 -- a test of an open change; none holds of no change
 abbrev pub when_open : Change → (Joining → Bool) → Bool

@@ -5,8 +5,7 @@ use Rattle.be.specs.Be.{put}
 use Rattle.wire.specs.Numbers.{Out, ok, number_of, left, judge, test, Test, Case, case, under, pick, broken, no_number_left, change_open, out_of_turn, not_meant, id_used, chain_full, only_node, other_count, key_there, no_free_slot, fence_above}
 use Rattle.wire.specs.Version.{last_stamp, next_stamp, last_session, next_session, top_stamp, top_session, less_stamp}
 use Rattle.store.specs.Table.{Table, table_of, table_ok, TableRules, find, lowest_free, entered_slot, free_slot, free, Write, keep, set_row, write_bytes, fence_bytes, row, row_at}
-use Rattle.store.specs.declared.Found.{Found}
-use Rattle.store.specs.declared.Found.TheVariants.{At, Nothing}
+use Rattle.std.specs.Prelude.{Option, Some, None}
 use Rattle.steps.specs.declared.Joining.{Joining}
 use Rattle.steps.specs.declared.Change.{Change}
 use Rattle.steps.specs.declared.Change.TheVariants.{Still, Before, After}
@@ -253,9 +252,9 @@ enter_tests r t id key =
     ∷ test no_free_slot (is_nothing (lowest_free t.slots))
     ∷ []
 
-abbrev pub enter_at : List ℕ → Found → Write
-enter_at key Nothing = keep
-enter_at key (At i) = set_row i (entered_slot key)
+abbrev pub enter_at : List ℕ → Option ℕ → Write
+enter_at key None = keep
+enter_at key (Some i) = set_row i (entered_slot key)
 
 unfoldable pub enter_step : Chain → Table → ℕ → List ℕ → Out Write
 enter_step r t id key = judge (enter_tests r t id key) (ok (enter_at key (lowest_free t.slots)))

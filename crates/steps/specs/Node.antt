@@ -5,8 +5,7 @@ use Rattle.wire.specs.Version.{sequence, zero_version, less_session, same_sessio
 use Rattle.wire.specs.Packet.{Packet, packet, packet_of, sent_in, well_formed, Formed, outlet_size, op_read, op_write, query, answer_value, answer_no_value, answer_no_key}
 use Rattle.wire.specs.declared.Version.{Version}
 use Rattle.store.specs.Table.{Slot, slot, Table, table_of, table_ok, TableRules, find, free_slot, free, valued, deleted, Write, keep, set_row, write_bytes}
-use Rattle.store.specs.declared.Found.{Found}
-use Rattle.store.specs.declared.Found.TheVariants.{At, Nothing}
+use Rattle.std.specs.Prelude.{Option, Some, None}
 
 -- ---- kinds of queries
 
@@ -81,22 +80,22 @@ taken t p i v = sent (set_row i (stored p v)) (reply t.id p query v p.value)
 unfoldable pub at_slot : Table → Packet → ℕ → Slot → Sent
 at_slot t p i s = pick (is_read p) (answered t p s) (taken t p i (version_for p s))
 
-abbrev pub node_does : Table → Packet → Found → Sent
-node_does t p Nothing = absent t p
-node_does t p (At i) = at_slot t p i (get_or t.slots i free_slot)
+abbrev pub node_does : Table → Packet → Option ℕ → Sent
+node_does t p None = absent t p
+node_does t p (Some i) = at_slot t p i (get_or t.slots i free_slot)
 
 -- ---- the refusals
 
 -- a test of the slot found; none holds of a missing key
-abbrev pub when_found : Table → Found → (Slot → Bool) → Bool
-when_found t Nothing f = false
-when_found t (At i) f = f (get_or t.slots i free_slot)
+abbrev pub when_found : Table → Option ℕ → (Slot → Bool) → Bool
+when_found t None f = false
+when_found t (Some i) f = f (get_or t.slots i free_slot)
 
-abbrev pub is_nothing : Found → Bool
-is_nothing Nothing = true
-is_nothing (At i) = false
+abbrev pub is_nothing : Option ℕ → Bool
+is_nothing None = true
+is_nothing (Some i) = false
 
-abbrev pub node_tests : Table → Packet → Found → List Test
+abbrev pub node_tests : Table → Packet → Option ℕ → List Test
 node_tests t p f =
     test misaddressed (not (eqb p.head.to t.id) || (not (eqb p.head.from 0) || not (eqb p.head.answer query)))
     ∷ test below_fence (less_stamp p.head.stamp t.fence)

@@ -1,7 +1,7 @@
 -- Document 01, "Relay step": where a packet is sent, and under which numbers it is dropped.
 use Rattle.std.specs.Prelude.{ℕ, ◌<◌, ◌≡◌, Bool, false, ◌&&◌, ◌||◌, not, ◌⊎◌, length, ltb, eqb}
 use mathlib.Core.List.{List, [], ◌∷◌, Memᴰ as Mem}
-use Rattle.wire.specs.Numbers.{Out, refuse, ok, left, judge, test, Test, Case, case, under, pick, broken, small_outlet, malformed, misaddressed, stranger, stopped}
+use Rattle.wire.specs.Numbers.{Out, refuse, ok, number_of, left, judge, test, Test, Case, case, under, pick, broken, small_outlet, malformed, misaddressed, stranger, stopped}
 use Rattle.wire.specs.Version.{sequence, stamp, is_zero, zero_version}
 use Rattle.wire.specs.Packet.{Packet, packet, packet_of, sent_in, well_formed, Formed, outlet_size, op_read, query, answer_written}
 use Rattle.wire.specs.declared.Version.{Version}
@@ -9,8 +9,8 @@ use Rattle.steps.specs.declared.Change.{Change}
 use Rattle.steps.specs.declared.Change.TheVariants.{Still, Before, After}
 use Rattle.steps.specs.declared.Chain.{Chain}
 use Rattle.steps.specs.declared.Joining.{Joining}
-use Rattle.steps.specs.declared.Outcome.{Outcome}
-use Rattle.steps.specs.declared.Outcome.TheVariants.{ToNode, ToClient, Dropped}
+use Rattle.steps.specs.declared.Destination.{Destination}
+use Rattle.steps.specs.declared.Destination.TheVariants.{ToNode, ToClient}
 use Rattle.steps.specs.Chain.{members, memb, first_of, last_of, next_of, First, Last, Follows, Opened, chain_ok, ChainRules}
 use Rattle.steps.specs.Node.{is_read, is_unnumbered, Alters, Unnumbered}
 
@@ -127,16 +127,17 @@ packet_sent (node j q) = q
 packet_sent (client q) = q
 
 -- sent to a node, sent to the client, or dropped under a number
+abbrev pub Outcome : Type 0
+Outcome = Out Destination
+
 abbrev pub outcome_of : Out Way → Outcome
-outcome_of (refuse n) = Dropped n
-outcome_of (ok (node j q)) = ToNode j
-outcome_of (ok (client q)) = ToClient
+outcome_of (refuse n) = refuse n
+outcome_of (ok (node j q)) = ok (ToNode j)
+outcome_of (ok (client q)) = ok ToClient
 
 -- document 01's number of each case
 abbrev pub outcome_number : Outcome → ℕ
-outcome_number (ToNode j) = 0
-outcome_number ToClient = 0
-outcome_number (Dropped n) = n
+outcome_number o = number_of o
 
 -- what a call of the relay step promises: its outcome, and the outlet afterwards
 pub record RelayGives (r : Chain) (p out : List ℕ) (o : Outcome) (out' : List ℕ) : Type 0 where

@@ -1,7 +1,10 @@
 // The chain record with its state of change, and what the relay does with a packet.
 #![tactic(auto)]
 
-use wire::{Session, Stamp};
+ghost use Rattle.std.specs.Prelude.{◌≡◌};
+ghost use Rattle.steps.specs.Chain.{joined, is_open};
+
+use wire::{Refusal, Session, Stamp};
 
 // A node that joins at a named one: its id, whether the named node is fenced, and the next slot to copy.
 #[derive(Clone, Copy)]
@@ -19,6 +22,24 @@ pub enum Change {
     After(Joining),
 }
 
+impl Change {
+    // The node that joins, on either side; none where no change is open.
+    pub fn joining(self) -> Option<Joining>
+        ensures { result ≡ joined self }
+    {
+        match self {
+            Change::Still => None,
+            Change::Before(j) | Change::After(j) => Some(j),
+        }
+    }
+
+    pub fn is_open(self) -> bool
+        ensures { result ≡ is_open self }
+    {
+        self.joining().is_some()
+    }
+}
+
 // The eight places are in chain order; those from length on are 0.
 #[derive(Clone, Copy)]
 pub struct Chain {
@@ -32,15 +53,10 @@ pub struct Chain {
 }
 
 #[derive(Clone, Copy)]
-pub enum Outcome {
+pub enum Destination {
     ToNode(u16),
     ToClient,
-    Dropped(u8),
 }
 
-// What a controller step answers: 0 or a refusal, and the record afterwards.
-#[derive(Clone, Copy)]
-pub struct Ruling {
-    pub number: u8,
-    pub chain: Chain,
-}
+// The relay's outcome: where a packet is sent, or the refusal under which it is dropped.
+pub type Outcome = Result<Destination, Refusal>;

@@ -6,8 +6,7 @@ use mathlib.Core.Bool.{true, false}
 use lib.ListN.{replicate}
 use Rattle.wire.specs.Numbers.{pick}
 use Rattle.wire.specs.Version.{version, stamp, zero_version}
-use Rattle.store.specs.declared.Found.{Found}
-use Rattle.store.specs.declared.Found.TheVariants.{At, Nothing}
+use Rattle.std.specs.Prelude.{Option, Some, None}
 use Rattle.store.specs.Table.{Slot, slot, slot_of, row_of, free_slot, free, entered, valued, deleted, slots, fence_of, id_of, count_of, Table, table_of, row_ok, frame_ok, table_ok, has, is_free_slot, find, lowest_free}
 
 -- ---- what bytes stand for
@@ -16,7 +15,7 @@ pub data Example : Type 0 where
   a_slot : List ℕ → Slot → Example
   a_head : List ℕ → ℕ → ℕ → ℕ → Example
   a_table : List ℕ → Table → Example
-  a_find : List ℕ → List Slot → Found → Found → Example
+  a_find : List ℕ → List Slot → Option ℕ → Option ℕ → Example
 
 abbrev pub Holds : Example → Type 0
 Holds (a_slot r s) = (slot_of r ≡ s) × (row_of s ≡ r) × (row_ok r ≡ true)
@@ -48,9 +47,9 @@ examples =
     ∷ a_slot (key ++ (3 ∷ 0 ∷ 1 ∷ 4 ∷ 5 ∷ 6 ∷ 7 ∷ 8 ∷ []) ++ replicate 128 0) (slot key deleted (version 260 84281096) [])
     ∷ a_head (9 ∷ 10 ∷ 11 ∷ 12 ∷ 13 ∷ 14 ∷ 15 ∷ 16 ∷ []) 151653132 3342 3856
     ∷ a_table ((9 ∷ 10 ∷ 11 ∷ 12 ∷ 13 ∷ 14 ∷ 0 ∷ 2 ∷ []) ++ replicate 152 0 ++ valued_row) (record { fence = stamp 151653132; id = 3342; slots = free_slot ∷ valued_slot ∷ [] })
-    ∷ a_find key (free_slot ∷ slot (replicate 16 9) valued (version 1 2) [] ∷ valued_slot ∷ slot key deleted (version 3 4) [] ∷ free_slot ∷ []) (At 2) (At 0)
-    ∷ a_find key (slot key free zero_version [] ∷ slot (replicate 16 9) valued (version 1 2) [] ∷ []) Nothing (At 0)
-    ∷ a_find key (valued_slot ∷ []) (At 0) Nothing
+    ∷ a_find key (free_slot ∷ slot (replicate 16 9) valued (version 1 2) [] ∷ valued_slot ∷ slot key deleted (version 3 4) [] ∷ free_slot ∷ []) (Some 2) (Some 0)
+    ∷ a_find key (slot key free zero_version [] ∷ slot (replicate 16 9) valued (version 1 2) [] ∷ []) None (Some 0)
+    ∷ a_find key (valued_slot ∷ []) (Some 0) None
     ∷ []
 
 pub examples_hold : All Holds examples

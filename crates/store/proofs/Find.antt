@@ -10,8 +10,7 @@ use lib.ListN.{length, get_or, set, replicate, length-set, length-replicate, get
 use lib.Seq.{get_or-set_same, get_or-set_other}
 use Rattle.wire.specs.Numbers.{pick}
 use Rattle.wire.proofs.Numbers.{pick_true, pick_false, pick_case, Reflects, reflects_yes, reflects_no, reflect_eqb, reflect_not, reflect_and, reflect_eqs}
-use Rattle.store.specs.declared.Found.{Found}
-use Rattle.store.specs.declared.Found.TheVariants.{At, Nothing}
+use Rattle.std.specs.Prelude.{Option, Some, None}
 use Rattle.wire.specs.Version.{zero_version}
 use Rattle.store.specs.Table.{Slot, free_slot, entered_slot, free, has, is_free_slot, first_from, find, lowest_free}
 use Rattle.store.specs.Held.{Held, missing, holds, held, held_version, held_content, version_at, content_at, content_of, nothing}
@@ -23,8 +22,8 @@ pub record FirstAt (f : Slot → Bool) (l : List Slot) (i : ℕ) : Type 0 where
   pub passes : f (get_or l i free_slot) ≡ true
   pub lowest : (j : ℕ) → j < i → f (get_or l j free_slot) ≡ false
 
-abbrev pub None : (Slot → Bool) → List Slot → Type 0
-None f l = (j : ℕ) → j < length l → f (get_or l j free_slot) ≡ false
+abbrev pub NoneOf : (Slot → Bool) → List Slot → Type 0
+NoneOf f l = (j : ℕ) → j < length l → f (get_or l j free_slot) ≡ false
 
 -- a slot in front that does not pass, and without it
 behind : (f : Slot → Bool) (s : Slot) (l : List Slot) (i : ℕ) → f s ≡ false → FirstAt f l i → FirstAt f (s ∷ l) (suc i)
@@ -38,44 +37,44 @@ ahead : (f : Slot → Bool) (s : Slot) (l : List Slot) (i : ℕ) → FirstAt f (
 ahead f s l i a = record { below = let h = a.below in omega arith; passes = a.passes; lowest = λ j h. a.lowest (suc j) (omega arith) }
 
 -- what is found is the first
-first_from_lem : (f : Slot → Bool) (m : ℕ) (l : List Slot) (j : ℕ) → first_from f m l ≡ At j → (i : ℕ) × (m + i ≡ j) × FirstAt f l i
+first_from_lem : (f : Slot → Bool) (m : ℕ) (l : List Slot) (j : ℕ) → first_from f m l ≡ Some j → (i : ℕ) × (m + i ≡ j) × FirstAt f l i
 first_from_lem f m [] j e = absurd (let z : ◌≡◌ {A = ℕ} 0 1 = cc in omega arith)
 first_from_lem f m (s ∷ l) j e =
-    pick_case (λ z. z ≡ At j → (i : ℕ) × (m + i ≡ j) × FirstAt f (s ∷ l) i) (f s) (At m) (first_from f (suc m) l)
+    pick_case (λ z. z ≡ Some j → (i : ℕ) × (m + i ≡ j) × FirstAt f (s ∷ l) i) (f s) (Some m) (first_from f (suc m) l)
     (λ t q. (0, add-zero m ∙ (cc), record { below = omega arith; passes = t; lowest = λ j h. absurd (omega arith) }))
     (λ n q. let r = first_from_lem f (suc m) l j q in (suc r.0, omega (arith, r.1), behind f s l r.0 n r.2))
     e
 
-first_at : (f : Slot → Bool) (l : List Slot) (i : ℕ) → first_from f 0 l ≡ At i → FirstAt f l i
+first_at : (f : Slot → Bool) (l : List Slot) (i : ℕ) → first_from f 0 l ≡ Some i → FirstAt f l i
 first_at f l i e = let r = first_from_lem f 0 l i e in rw (let p : i ≡ r.0 = omega (arith, r.1) in p) r.2
 
 -- the first is found
-from_first : (f : Slot → Bool) (m : ℕ) (l : List Slot) (i : ℕ) → FirstAt f l i → first_from f m l ≡ At (m + i)
+from_first : (f : Slot → Bool) (m : ℕ) (l : List Slot) (i : ℕ) → FirstAt f l i → first_from f m l ≡ Some (m + i)
 from_first f m [] i a = absurd (let h = a.below in omega arith)
-from_first f m (s ∷ l) zero a = pick_true (f s) (At m) (first_from f (suc m) l) a.passes ∙ ap At (sym (add-zero m))
+from_first f m (s ∷ l) zero a = pick_true (f s) (Some m) (first_from f (suc m) l) a.passes ∙ ap Some (sym (add-zero m))
 from_first f m (s ∷ l) (suc i) a =
-    pick_false (f s) (At m) (first_from f (suc m) l) (a.lowest 0 (omega arith))
+    pick_false (f s) (Some m) (first_from f (suc m) l) (a.lowest 0 (omega arith))
     ∙ from_first f (suc m) l i (ahead f s l i a)
-    ∙ ap At (omega arith)
+    ∙ ap Some (omega arith)
 
-at_first : (f : Slot → Bool) (l : List Slot) (i : ℕ) → FirstAt f l i → first_from f 0 l ≡ At i
-at_first f l i a = from_first f 0 l i a ∙ ap At (omega arith)
+at_first : (f : Slot → Bool) (l : List Slot) (i : ℕ) → FirstAt f l i → first_from f 0 l ≡ Some i
+at_first f l i a = from_first f 0 l i a ∙ ap Some (omega arith)
 
 -- nothing is found where none passes
-from_none : (f : Slot → Bool) (m : ℕ) (l : List Slot) → None f l → first_from f m l ≡ Nothing
+from_none : (f : Slot → Bool) (m : ℕ) (l : List Slot) → NoneOf f l → first_from f m l ≡ None
 from_none f m [] n = refl
 from_none f m (s ∷ l) n =
-    pick_false (f s) (At m) (first_from f (suc m) l) (n 0 (omega arith)) ∙ from_none f (suc m) l (λ j h. n (suc j) (omega arith))
+    pick_false (f s) (Some m) (first_from f (suc m) l) (n 0 (omega arith)) ∙ from_none f (suc m) l (λ j h. n (suc j) (omega arith))
 
-none_from : (f : Slot → Bool) (m : ℕ) (l : List Slot) → first_from f m l ≡ Nothing → None f l
+none_from : (f : Slot → Bool) (m : ℕ) (l : List Slot) → first_from f m l ≡ None → NoneOf f l
 none_from f m [] e = λ j h. absurd (omega arith)
 none_from f m (s ∷ l) e =
-    pick_case (λ z. z ≡ Nothing → None f (s ∷ l)) (f s) (At m) (first_from f (suc m) l)
+    pick_case (λ z. z ≡ None → NoneOf f (s ∷ l)) (f s) (Some m) (first_from f (suc m) l)
     (λ t q. absurd (let z : ◌≡◌ {A = ℕ} 0 1 = cc in omega arith))
     (λ n q. all n (none_from f (suc m) l q))
     e
   where
-    all : f s ≡ false → None f l → None f (s ∷ l)
+    all : f s ≡ false → NoneOf f l → NoneOf f (s ∷ l)
     all n g zero h = n
     all n g (suc j) h = g j (omega arith)
 
@@ -90,8 +89,8 @@ first_set f l i s h t low = record {
 -- a slot set that passes as the one before did leaves the first where it was
 pub first_skip : (f : Slot → Bool) (m : ℕ) (l : List Slot) (i : ℕ) (s : Slot) → f (get_or l i free_slot) ≡ false → f s ≡ false → first_from f m (set l i s) ≡ first_from f m l
 first_skip f m [] i s o n = refl
-first_skip f m (x ∷ l) zero s o n = pick_false (f s) (At m) (first_from f (suc m) l) n ∙ sym (pick_false (f x) (At m) (first_from f (suc m) l) o)
-first_skip f m (x ∷ l) (suc i) s o n = ap (pick (f x) (At m)) (first_skip f (suc m) l i s o n)
+first_skip f m (x ∷ l) zero s o n = pick_false (f s) (Some m) (first_from f (suc m) l) n ∙ sym (pick_false (f x) (Some m) (first_from f (suc m) l) o)
+first_skip f m (x ∷ l) (suc i) s o n = ap (pick (f x) (Some m)) (first_skip f (suc m) l i s o n)
 
 -- ---- a slot that is used and has the key
 
@@ -112,35 +111,35 @@ has_other k s n = reflects_no (reflect_has k s) (λ p. n p.1)
 
 -- ---- the lowest used slot that has a key, and the lowest free slot
 
-pub find_at : (k : List ℕ) (l : List Slot) (i : ℕ) → find k l ≡ At i → FirstAt (has k) l i
+pub find_at : (k : List ℕ) (l : List Slot) (i : ℕ) → find k l ≡ Some i → FirstAt (has k) l i
 unfolding find
 find_at k l i e = first_at (has k) l i e
 
-pub at_find : (k : List ℕ) (l : List Slot) (i : ℕ) → FirstAt (has k) l i → find k l ≡ At i
+pub at_find : (k : List ℕ) (l : List Slot) (i : ℕ) → FirstAt (has k) l i → find k l ≡ Some i
 unfolding find
 at_find k l i a = at_first (has k) l i a
 
-pub find_none : (k : List ℕ) (l : List Slot) → find k l ≡ Nothing → None (has k) l
+pub find_none : (k : List ℕ) (l : List Slot) → find k l ≡ None → NoneOf (has k) l
 unfolding find
 find_none k l e = none_from (has k) 0 l e
 
-pub none_find : (k : List ℕ) (l : List Slot) → None (has k) l → find k l ≡ Nothing
+pub none_find : (k : List ℕ) (l : List Slot) → NoneOf (has k) l → find k l ≡ None
 unfolding find
 none_find k l n = from_none (has k) 0 l n
 
-pub free_at : (l : List Slot) (i : ℕ) → lowest_free l ≡ At i → FirstAt is_free_slot l i
+pub free_at : (l : List Slot) (i : ℕ) → lowest_free l ≡ Some i → FirstAt is_free_slot l i
 unfolding lowest_free
 free_at l i e = first_at is_free_slot l i e
 
-pub at_free : (l : List Slot) (i : ℕ) → FirstAt is_free_slot l i → lowest_free l ≡ At i
+pub at_free : (l : List Slot) (i : ℕ) → FirstAt is_free_slot l i → lowest_free l ≡ Some i
 unfolding lowest_free
 at_free l i a = at_first is_free_slot l i a
 
-pub free_none : (l : List Slot) → lowest_free l ≡ Nothing → None is_free_slot l
+pub free_none : (l : List Slot) → lowest_free l ≡ None → NoneOf is_free_slot l
 unfolding lowest_free
 free_none l e = none_from is_free_slot 0 l e
 
-pub none_free : (l : List Slot) → None is_free_slot l → lowest_free l ≡ Nothing
+pub none_free : (l : List Slot) → NoneOf is_free_slot l → lowest_free l ≡ None
 unfolding lowest_free
 none_free l n = from_none is_free_slot 0 l n
 
@@ -153,38 +152,38 @@ held_at_lem k (s ∷ l) zero a = pick_true (has k s) (holds s) (held k l) a.pass
 held_at_lem k (s ∷ l) (suc i) a =
     pick_false (has k s) (holds s) (held k l) (a.lowest 0 (omega arith)) ∙ held_at_lem k l i (ahead (has k) s l i a)
 
-pub held_none : (k : List ℕ) (l : List Slot) → None (has k) l → held k l ≡ missing
+pub held_none : (k : List ℕ) (l : List Slot) → NoneOf (has k) l → held k l ≡ missing
 unfolding held
 held_none k [] n = refl
 held_none k (s ∷ l) n = pick_false (has k s) (holds s) (held k l) (n 0 (omega arith)) ∙ held_none k l (λ j h. n (suc j) (omega arith))
 
 -- by what `find` gives
-abbrev pub held_at : List Slot → Found → Held
-held_at l (At i) = holds (get_or l i free_slot)
-held_at l Nothing = missing
+abbrev pub held_at : List Slot → Option ℕ → Held
+held_at l (Some i) = holds (get_or l i free_slot)
+held_at l None = missing
 
 pub held_find : (k : List ℕ) (l : List Slot) → held k l ≡ held_at l (find k l)
 held_find k l = go (find k l) refl
   where
-    go : (f : Found) → find k l ≡ f → held k l ≡ held_at l f
-    go (At i) e = held_at_lem k l i (find_at k l i e)
-    go Nothing e = held_none k l (find_none k l e)
+    go : (f : Option ℕ) → find k l ≡ f → held k l ≡ held_at l f
+    go (Some i) e = held_at_lem k l i (find_at k l i e)
+    go None e = held_none k l (find_none k l e)
 
 -- missing if and only if nothing is found
-pub held_missing : (k : List ℕ) (l : List Slot) → (held k l ≡ missing) ↔ (find k l ≡ Nothing)
+pub held_missing : (k : List ℕ) (l : List Slot) → (held k l ≡ missing) ↔ (find k l ≡ None)
 held_missing k l = (go (find k l) refl, λ e. held_find k l ∙ ap (held_at l) e)
   where
-    go : (f : Found) → find k l ≡ f → held k l ≡ missing → find k l ≡ Nothing
-    go (At i) e m = absurd (let h = held_find k l in let z : ◌≡◌ {A = ℕ} 0 1 = cc in omega arith)
-    go Nothing e m = e
+    go : (f : Option ℕ) → find k l ≡ f → held k l ≡ missing → find k l ≡ None
+    go (Some i) e m = absurd (let h = held_find k l in let z : ◌≡◌ {A = ℕ} 0 1 = cc in omega arith)
+    go None e m = e
 
 -- what is held stands where the key is found
-pub held_holds : (k : List ℕ) (l : List Slot) (s : Slot) → held k l ≡ holds s → (i : ℕ) × (find k l ≡ At i) × (get_or l i free_slot ≡ s)
+pub held_holds : (k : List ℕ) (l : List Slot) (s : Slot) → held k l ≡ holds s → (i : ℕ) × (find k l ≡ Some i) × (get_or l i free_slot ≡ s)
 held_holds k l s h = go (find k l) refl
   where
-    go : (f : Found) → find k l ≡ f → (i : ℕ) × (find k l ≡ At i) × (get_or l i free_slot ≡ s)
-    go (At i) e = (i, e, let g = held_find k l in (cc))
-    go Nothing e = absurd (let g = held_find k l in let z : ◌≡◌ {A = ℕ} 0 1 = cc in omega arith)
+    go : (f : Option ℕ) → find k l ≡ f → (i : ℕ) × (find k l ≡ Some i) × (get_or l i free_slot ≡ s)
+    go (Some i) e = (i, e, let g = held_find k l in (cc))
+    go None e = absurd (let g = held_find k l in let z : ◌≡◌ {A = ℕ} 0 1 = cc in omega arith)
 
 -- no slot of a key stands among free ones
 pub held_blank : (k : List ℕ) (n : ℕ) → held k (replicate n free_slot) ≡ missing
@@ -195,7 +194,7 @@ held_blank k n =
 -- ---- a slot that is set
 
 -- the slot of the key itself
-pub held_set : (k : List ℕ) (l : List Slot) (i : ℕ) (s : Slot) → find k l ≡ At i → has k s ≡ true → held k (set l i s) ≡ holds s
+pub held_set : (k : List ℕ) (l : List Slot) (i : ℕ) (s : Slot) → find k l ≡ Some i → has k s ≡ true → held k (set l i s) ≡ holds s
 held_set k l i s e h =
     let a = find_at k l i e in
     held_at_lem k (set l i s) i (first_set (has k) l i s a.below h a.lowest) ∙ ap holds (get_or-set_same l i s free_slot a.below)
@@ -208,7 +207,7 @@ held_skip k (x ∷ l) zero s o n = pick_false (has k s) (holds s) (held k l) n �
 held_skip k (x ∷ l) (suc i) s o n = ap (pick (has k x) (holds x)) (held_skip k l i s o n)
 
 -- a slot of another key
-pub held_other : (k j : List ℕ) (l : List Slot) (i : ℕ) (s : Slot) → find k l ≡ At i → s.key ≡ k → (j ≡ k → ⊥) → held j (set l i s) ≡ held j l
+pub held_other : (k j : List ℕ) (l : List Slot) (i : ℕ) (s : Slot) → find k l ≡ Some i → s.key ≡ k → (j ≡ k → ⊥) → held j (set l i s) ≡ held j l
 held_other k j l i s e h ne =
     let old = ((reflect_has k (get_or l i free_slot)).0 (find_at k l i e).passes).1 in
     held_skip j l i s (has_other j (get_or l i free_slot) (λ q. ne (sym q ∙ old))) (has_other j s (λ q. ne (sym q ∙ h)))
@@ -220,7 +219,7 @@ content_of_lem : (k : List ℕ) → content_of (entered_slot k) ≡ nothing
 unfolding content_of pick
 content_of_lem k = refl
 
-module _ (k : List ℕ) (l : List Slot) (i : ℕ) (at : lowest_free l ≡ At i) (new : find k l ≡ Nothing) where
+module _ (k : List ℕ) (l : List Slot) (i : ℕ) (at : lowest_free l ≡ Some i) (new : find k l ≡ None) where
   pub held_entered : held k (set l i (entered_slot k)) ≡ holds (entered_slot k)
   held_entered =
       let below = (free_at l i at).below in

@@ -6,8 +6,7 @@ use Rattle.wire.specs.Version.{version, stamp, is_zero, is_given, zero_version}
 use Rattle.wire.specs.Packet.{key_size, value_size}
 use Rattle.wire.specs.declared.Version.{Version}
 use Rattle.wire.specs.declared.Stamp.{Stamp}
-use Rattle.store.specs.declared.Found.{Found}
-use Rattle.store.specs.declared.Found.TheVariants.{At, Nothing}
+use Rattle.std.specs.Prelude.{Option, Some, None}
 
 -- ---- sizes
 
@@ -180,14 +179,14 @@ unfoldable pub is_free_slot : Slot → Bool
 is_free_slot s = eqb s.state free
 
 -- the first slot of a list that passes a test, counted from i
-abbrev pub first_from : (Slot → Bool) → ℕ → List Slot → Found
-first_from f i [] = Nothing
-first_from f i (s ∷ l) = pick (f s) (At i) (first_from f (suc i) l)
+abbrev pub first_from : (Slot → Bool) → ℕ → List Slot → Option ℕ
+first_from f i [] = None
+first_from f i (s ∷ l) = pick (f s) (Some i) (first_from f (suc i) l)
 
-unfoldable pub find : List ℕ → List Slot → Found
+unfoldable pub find : List ℕ → List Slot → Option ℕ
 find k l = first_from (has k) 0 l
 
-unfoldable pub lowest_free : List Slot → Found
+unfoldable pub lowest_free : List Slot → Option ℕ
 lowest_free l = first_from is_free_slot 0 l
 
 -- the whole slots that any slice has, a table or not

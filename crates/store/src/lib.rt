@@ -1,4 +1,4 @@
-// A table of one node: the sizes of its parts, the states of a slot, and where a key or a free slot stands.
+// A table of one node: the sizes of its parts, and the states of a slot.
 
 #![tactic(auto)]
 
@@ -16,18 +16,11 @@ pub const VALUE_AT: usize = 24;
 
 pub const MOST_SLOTS: usize = 256;
 
-// States of a slot.
-pub const FREE: u8 = 0;
-
-pub const ENTERED: u8 = 1;
-
-pub const VALUED: u8 = 2;
-
-pub const DELETED: u8 = 3;
-
-// Where a key or a free slot stands in a table.
+// States of a slot. Its byte may hold any number, so it is compared as one: `State::Free as u8`.
 #[derive(Clone, Copy)]
-pub enum Found {
-    At(usize),
-    Nothing,
+pub enum State {
+    Free = 0,
+    Entered = 1,
+    Valued = 2,
+    Deleted = 3,
 }

@@ -18,8 +18,7 @@ use Rattle.wire.specs.Numbers.{pick}
 use Rattle.wire.specs.Packet.{key_size, value_size}
 use Rattle.wire.specs.Version.{version, is_zero, is_given}
 use Rattle.wire.proofs.Numbers.{Reflects, reflects_yes, reflects_no, reflect_eqb, reflect_ltb, reflect_leb, reflect_not, reflect_or, reflect_and, pick_true, pick_false, pick_case}
-use Rattle.store.specs.declared.Found.{Found}
-use Rattle.store.specs.declared.Found.TheVariants.{At, Nothing}
+use Rattle.std.specs.Prelude.{Option, Some, None}
 use Rattle.store.specs.Table.{Slot, slot_of, row_of, free_slot, most_slots, whole_slots, free, head_size, row_size, state_at, size_at, value_at, entered, valued, deleted, row_at, row, slots, all_zero, Zero, row_ok, rows_ok, has, is_free_slot, first_from, find, blank_bytes}
 use Rattle.store.proofs.Slot.{length_row_of, slot_bytes, zero_at_lem}
 use Rattle.store.proofs.Rows.{length_slots, get_or_slots, length_row}
@@ -40,13 +39,13 @@ same_test {a} {b} r s i = go a b refl refl
 -- ---- the first slot that passes a test
 
 module _ (f : Slot → Bool) (n : ℕ) (t : List ℕ) (i : ℕ) where
-  turn : i < n → first_from f i (drop i (slots n t)) ≡ pick (f (slot_of (row t i))) (At i) (first_from f (i + 1) (drop (i + 1) (slots n t)))
+  turn : i < n → first_from f i (drop i (slots n t)) ≡ pick (f (slot_of (row t i))) (Some i) (first_from f (i + 1) (drop (i + 1) (slots n t)))
   turn h =
       let l : i < length (slots n t) = rw length_slots h in
       rw (drop-cons (slots n t) i free_slot l, get_or_slots n t i free_slot h, add-one i)
 
   -- it is this one
-  pub first_here : i < n → f (slot_of (row t i)) ≡ true → first_from f i (drop i (slots n t)) ≡ At i
+  pub first_here : i < n → f (slot_of (row t i)) ≡ true → first_from f i (drop i (slots n t)) ≡ Some i
   first_here h e = turn h ∙ pick_true _ _ _ e
 
   -- it is a later one
@@ -54,7 +53,7 @@ module _ (f : Slot → Bool) (n : ℕ) (t : List ℕ) (i : ℕ) where
   first_later h e = turn h ∙ pick_false _ _ _ e
 
   -- there is none
-  pub first_end : n ≤ i → first_from f i (drop i (slots n t)) ≡ Nothing
+  pub first_end : n ≤ i → first_from f i (drop i (slots n t)) ≡ None
   first_end h =
       let l : length (slots n t) ≤ i = rw length_slots h in
       rw (drop_of_length-le (slots n t) l)
@@ -141,7 +140,7 @@ has_halves_lem key s hk bk hs bs =
 -- tests that agree on every slot have one first
 first_agree : (f g : Slot → Bool) (m : ℕ) (l : List Slot) → ((j : ℕ) → j < length l → f (get_or l j free_slot) ≡ g (get_or l j free_slot)) → first_from f m l ≡ first_from g m l
 first_agree f g m [] h = refl
-first_agree f g m (s ∷ l) h = ap₂ (λ (b : Bool) (r : Found). pick b (At m) r) (h 0 (omega arith)) (first_agree f g (suc m) l (λ j b. h (suc j) (omega arith)))
+first_agree f g m (s ∷ l) h = ap₂ (λ (b : Bool) (r : Option ℕ). pick b (Some m) r) (h 0 (omega arith)) (first_agree f g (suc m) l (λ j b. h (suc j) (omega arith)))
 
 -- what the search for the halves gives
 pub find_halves : (key t : List ℕ) (n : ℕ) → length key ≡ key_size → Bytes key → Bytes t → row_size * n ≤ length t - head_size → first_from (has_halves key) 0 (slots n t) ≡ find key (slots n t)
@@ -155,7 +154,7 @@ find_halves key t n hk bk bt ht =
     rw e (has_halves_lem key (slot_of (row t j)) hk bk (key_size_lem (row t j) len) (slot_bytes (row t j) len (bytes_row t j bt)).key))
 
 -- a key of another length stands nowhere
-pub find_no_key : (key t : List ℕ) (n : ℕ) → (length key ≡ key_size → ⊥) → row_size * n ≤ length t - head_size → find key (slots n t) ≡ Nothing
+pub find_no_key : (key t : List ℕ) (n : ℕ) → (length key ≡ key_size → ⊥) → row_size * n ≤ length t - head_size → find key (slots n t) ≡ None
 find_no_key key t n hk ht =
     none_find key (slots n t)
     (λ j l.

@@ -1,4 +1,7 @@
 -- Each public call asks nothing of its caller, and no second outcome fits its contract: two that do, for the same arguments, are equal.
+use Rattle.std.specs.Prelude.{Result}
+use Rattle.wire.specs.declared.Refusal.{Refusal}
+use Rattle.wire.proofs.Answers.{code_once}
 use Prim.Native.Nat.{ℕ}
 use mathlib.Core.List.{List}
 use Rattle.be.specs.Promise.{Exact}
@@ -62,5 +65,5 @@ set_fence_exact = equation
 pub copy_slot_exact : Exact copy_slot_reads.Asked copy_slot_reads.Learnt (λ r e. e.1.0.now)
 copy_slot_exact = equation
 
-pub blank_exact : Exact {O = ℕ × List ℕ} blank.Asked blank.Learnt (λ r e. (r, e.0.now))
-blank_exact = exact (λ _ _ _ _ _ _ p q. pair (blank_once _ _ _ _ _ _ _ p q))
+pub blank_exact : Exact {O = Result (Unit {0}) Refusal × List ℕ} blank.Asked blank.Learnt (λ r e. (r, e.0.now))
+blank_exact = exact (λ _ _ r s _ _ p q. let e = blank_once _ _ _ _ _ _ _ p q in pair (code_once r s e.0, e.1))

@@ -3,6 +3,7 @@
 #![tactic(auto)]
 
 ghost use Rattle.std.specs.Prelude.{◌≡◌, ◌+◌, ◌*◌, ◌-◌, ◌<◌, ◌≤◌, length};
+ghost use Rattle.wire.specs.Numbers.{code};
 ghost use Rattle.wire.specs.Packet.{key_size, value_size};
 ghost use Rattle.store.specs.Table.{slot, row_of, row_size, row_at, slots, whole_slots, table_ok, frame_ok, find, lowest_free, head_size, BlankGives, blank_bytes};
 ghost use Rattle.table.specs.Parts.{fence_part, id_part, count_part, row_part, state_part, version_part, value_part, slot_written, slot_stored, fence_set, slot_copied};
@@ -10,8 +11,8 @@ ghost use Rattle.table.specs.Parts.{fence_part, id_part, count_part, row_part, s
 mod rules;
 mod search;
 
-use store::{FREE, Found, HEAD_SIZE, MOST_SLOTS, ROW_SIZE, SIZE_AT, STATE_AT, VALUE_AT};
-use wire::{BROKEN, KEY_SIZE, Stamp, VALUE_SIZE, Version};
+use store::{HEAD_SIZE, MOST_SLOTS, ROW_SIZE, SIZE_AT, STATE_AT, State, VALUE_AT};
+use wire::{KEY_SIZE, Refusal, Stamp, VALUE_SIZE, Version};
 
 pub(crate) fn wide(b: u8) -> usize
     ensures { (result ≡ b) × (result < 256) }
@@ -77,7 +78,7 @@ pub fn state(r: &[u8]) -> u8
     if r.len() == ROW_SIZE {
         r[STATE_AT]
     } else {
-        FREE
+        State::Free as u8
     }
 }
 
@@ -107,30 +108,30 @@ pub fn value(r: &[u8]) -> &[u8]
 // ---- which slot
 
 // The lowest used slot that has the key, of a table or any other slice.
-pub fn find(t: &[u8], key: &[u8]) -> Found
+pub fn find(t: &[u8], key: &[u8]) -> Option<usize>
     ensures { result ≡ find key.now (slots (whole_slots t.now) t.now) }
 {
     if key.len() != KEY_SIZE {
-        return Found::Nothing;
+        return None;
     }
     search::scan(t, whole(t), key)
 }
 
-fn scan_free(t: &[u8], n: usize) -> Found
+fn scan_free(t: &[u8], n: usize) -> Option<usize>
     requires { row_size * n ≤ length t.now - head_size }
     ensures { result ≡ lowest_free (slots n t.now) }
 {
     let mut i = 0;
     while i < n {
-        if t[HEAD_SIZE + ROW_SIZE * i + STATE_AT] == FREE {
-            return Found::At(i);
+        if t[HEAD_SIZE + ROW_SIZE * i + STATE_AT] == State::Free as u8 {
+            return Some(i);
         }
         i += 1;
     }
-    Found::Nothing
+    None
 }
 
-pub fn lowest_free(t: &[u8]) -> Found
+pub fn lowest_free(t: &[u8]) -> Option<usize>
     ensures { result ≡ lowest_free (slots (whole_slots t.now) t.now) }
 {
     scan_free(t, whole(t))
@@ -227,14 +228,14 @@ fn clear(t: &mut [u8], id: u16, n: u16)
     be::put16(t, 6, n);
 }
 
-// Makes a blank table of the slice: 0, or 1 where that is refused and nothing is written.
-pub fn blank(t: &mut [u8], id: u16, count: u16) -> u8
-    ensures { BlankGives t.old id count result t.new }
+// Makes a blank table of the slice, or writes nothing.
+pub fn blank(t: &mut [u8], id: u16, count: u16) -> Result<(), Refusal>
+    ensures { BlankGives t.old id count (code result) t.new }
 {
     let n = count as usize;
     if (id == 0) | ((n == 0) | ((MOST_SLOTS < n) | (t.len() != HEAD_SIZE + ROW_SIZE * n))) {
-        return BROKEN;
+        return Err(Refusal::Broken);
     }
     clear(t, id, count);
-    0
+    Ok(())
 }

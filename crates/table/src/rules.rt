@@ -6,7 +6,7 @@ ghost use Rattle.wire.specs.Packet.{value_size};
 ghost use Rattle.store.specs.Table.{row_size, value_at, row_at, all_zero, row_ok, rows_ok};
 
 use crate::{version, wide};
-use store::{DELETED, ENTERED, FREE, HEAD_SIZE, ROW_SIZE, SIZE_AT, STATE_AT, VALUE_AT, VALUED};
+use store::{HEAD_SIZE, ROW_SIZE, SIZE_AT, STATE_AT, State, VALUE_AT};
 use wire::{VALUE_SIZE, Version};
 
 // Zeros in the n bytes from `at` on. There is no way out before the last one: so many bytes are tested at once.
@@ -68,15 +68,15 @@ fn row_ok(r: &[u8]) -> bool
     ensures { result ≡ row_ok r.now }
 {
     let state = r[STATE_AT];
-    if state == FREE {
+    if state == State::Free as u8 {
         return zeros(r, 0, ROW_SIZE);
     }
     let n = wide(r[SIZE_AT]);
     let v = version(r);
-    if state == VALUED {
+    if state == State::Valued as u8 {
         return valued_ok(r, n, v);
     }
-    (((state == ENTERED) & v.is_zero()) | ((state == DELETED) & v.is_given()))
+    (((state == State::Entered as u8) & v.is_zero()) | ((state == State::Deleted as u8) & v.is_given()))
         & ((n == 0) & zeros(r, VALUE_AT, VALUE_SIZE))
 }
 

@@ -12,6 +12,6 @@ returns c =
     c.used-n.ensures.0
     c.ids_ok.ensures
     c.zeros.ensures
-    c.same.ensures
+    c.ne.ensures
     c.wide.ensures.0
     c.change.ensures

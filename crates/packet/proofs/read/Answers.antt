@@ -1,9 +1,8 @@
 -- `packet::read`: reading gives the fields, or the refusal.
 use mathlib.Core.Path.{◌∙◌}
 use Rattle.std.proofs.Common.{sym, ap, arith}
-use Rattle.wire.specs.declared.Reading.TheVariants.{Fields}
+use Rattle.wire.specs.Numbers.{ok}
 use Rattle.wire.proofs.Packet.{read_done, read_refused}
-use Rattle.wire.specs.Packet.{reading_of}
 use Rattle.packet.proofs.Laws.{formed, unformed}
 use Rattle.packet.proofs.read.Goals as goal
 
@@ -16,9 +15,9 @@ fields-requires c =
 pub returns-then-well_formed : goal.returns-then-well_formed
 returns-then-well_formed c =
     let p = c.args.p.now in
-    ap Fields c.fields.ensures ∙ ap reading_of (sym (read_done p (formed p c.well_formed-2.ensures c.if-well_formed.true)))
+    ap ok c.fields.ensures ∙ sym (read_done p (formed p c.well_formed-2.ensures c.if-well_formed.true))
 
 pub returns-else-well_formed : goal.returns-else-well_formed
 returns-else-well_formed c =
     let p = c.args.p.now in
-    ap reading_of (sym (read_refused p (unformed p c.well_formed-2.ensures c.if-well_formed.false)))
+    sym (read_refused p (unformed p c.well_formed-2.ensures c.if-well_formed.false))

@@ -7,18 +7,18 @@ use Rattle.store.specs.Table.{row_size, state_at, value_at, entered, deleted, al
 use Rattle.table.proofs.Laws.{rest, version_is, row_unused, row_valued, row_bare}
 use Rattle.table.proofs.rules.row_ok.Goals as goal
 
-pub returns-then-state-eq-FREE : goal.returns-then-state-eq-FREE
-returns-then-state-eq-FREE c =
+pub returns-then-state : goal.returns-then-state
+returns-then-state c =
     let r = c.args.r.now in
-    c.zeros.ensures ∙ ap all_zero (rest r 0 row_size (omega arith)) ∙ sym (row_unused r c.if-state-eq-FREE.true)
+    c.zeros.ensures ∙ ap all_zero (rest r 0 row_size (omega arith)) ∙ sym (row_unused r c.if-state.true)
 
-pub returns-then-state-eq-VALUED : goal.returns-then-state-eq-VALUED
-returns-then-state-eq-VALUED c =
+pub returns-then-state-2 : goal.returns-then-state-2
+returns-then-state-2 c =
     let r = c.args.r.now in
     let v = c.version-v.ensures ∙ version_is r c.requires in
     c.valued_ok.ensures
     ∙ ap₂ (λ (n : ℕ) (w : Version). (leb n value_size && is_given w) && all_zero (drop (value_at + n) r)) c.wide-n.ensures.0 v
-    ∙ sym (row_valued r c.if-state-eq-VALUED.true)
+    ∙ sym (row_valued r c.if-state-2.true)
 
 pub returns : goal.returns
 returns c =
@@ -27,4 +27,4 @@ returns c =
     ap₂ ◌&&◌
     (ap₂ (λ (x y : Bool). (eqb (get_or r state_at 0) entered && x) || (eqb (get_or r state_at 0) deleted && y)) (c.is_zero.ensures ∙ ap is_zero v) (c.is_given.ensures ∙ ap is_given v))
     (ap₂ (λ (n : ℕ) (z : Bool). eqb n 0 && z) c.wide-n.ensures.0 (c.zeros-2.ensures ∙ ap all_zero (rest r value_at row_size (omega arith))))
-    ∙ sym (row_bare r c.if-state-eq-FREE.false c.if-state-eq-VALUED.false)
+    ∙ sym (row_bare r c.if-state.false c.if-state-2.false)
