@@ -173,7 +173,7 @@ fn put_back(out: &mut [u8], h: Head, key: &[u8], value: &[u8])
     let q = v.sequence;
     be::put(out, SESSION_AT, s.0);
     be::put(out, LENGTH_AT, h.length);
-    be::put(out, ZERO_AT, 0);
+    be::put(out, ZERO_AT, 0u8);
     be::put(out, 20, q.0);
     be::put_bytes(out, KEY_AT, key);
     be::put_bytes(out, wire::FRONT_SIZE, value);
