@@ -12,6 +12,8 @@ use lib.Arith.{digits_div, digits_mod, digits_lt, mod-mul}
 use lib.Dec.{lit<, eqb}
 use lib.Pow.{pow-add}
 use lib.Seq.{get_or-append-add, take-suc, take-add, get_or-take, get_or-drop, get_or_at, sets, sets-eq, length-sets, paste, paste-zero, paste-suc, take-length, take_at, drop-append-add, drop-drop, drop_at, drop-append-le, take-append-le, length-take-le, take_all}
+use borrow.Rule.Slice.PartMut.{put_mid}
+use Rattle.std.proofs.lemmas.Slice.{put_mid-paste}
 use Rattle.be.specs.Be.{be, digits, low_first, swapped, Bytes, put}
 
 -- ---- a number and its bytes
@@ -140,6 +142,10 @@ be_take k m l at h = be_same k (take m l) l at at (λ i b. get_or-take m l (at +
 pub be_drop : (k m : ℕ) (l : List ℕ) (at : ℕ) → be k (drop m l) at ≡ be k l (m + at)
 be_drop k m l at = be_same k (drop m l) l at (m + at) (λ i h. rw (add_assoc m at i) (get_or-drop m l (at + i) 0))
 
+-- in a part
+pub be_part : (k n : ℕ) (l : List ℕ) (at : ℕ) → k ≤ n → be k (take n (drop at l)) 0 ≡ be k l at
+be_part k n l at h = be_take k n (drop at l) 0 (omega arith) ∙ be_drop k at l 0 ∙ ap (be k l) (add-zero at)
+
 -- ---- lists of bytes
 
 pub bytes_nil : Bytes []
@@ -188,6 +194,10 @@ sets_put vs l at h = sets-eq vs l at h
 pub paste_put : (l : List ℕ) (at : ℕ) (s : List ℕ) → paste l at s (length s) ≡ put l at s
 unfolding put
 paste_put l at s = rw take-length
+
+-- a part that was lent, when it holds what is put
+pub mid_put : (l vs ys : List ℕ) (at k : ℕ) → ys ≡ vs → length ys ≡ k → put_mid at k l ys ≡ put l at vs
+mid_put l vs ys at k e h = put_mid-paste at k l ys vs (length vs) e (sym (ap length e) ∙ h) refl ∙ paste_put l at vs
 
 pub length_put : (l : List ℕ) (at : ℕ) (vs : List ℕ) → at + length vs ≤ length l → length (put l at vs) ≡ length l
 unfolding put

@@ -1,196 +1,171 @@
 // Big-endian numbers in a slice of bytes, and bytes copied and cleared in a part of one.
 #![tactic(auto)]
 
-ghost use Rattle.std.specs.Prelude.{◌≡◌, ◌+◌, ◌<◌, ◌≤◌, [], ◌∷◌, length, take, drop, replicate, eqb};
-ghost use Rattle.be.specs.Be.{be, digits, swapped, low_first, put};
+ghost use Rattle.std.specs.Prelude.{◌≡◌, ◌+◌, ◌<◌, ◌^◌, ◌≤◌, ℕ, List, [], ◌∷◌, length, replicate, refl, eqb};
+ghost use Rattle.std.proofs.Common.{ap, sym};
+ghost use Rattle.std.proofs.Math.Nat.{mod-eq_of_lt};
+ghost use Rattle.be.specs.Be.{be, digits, put};
 
-fn wide(b: u8) -> u32
-    ensures { (result ≡ b) × (result < 256) }
-{
-    b as u32
+// A number of some bytes, the highest first.
+pub trait Number {
+    // how many bytes it has
+    ghost SIZE: { ℕ };
+
+    // the number that it is
+    ghost value: { Self → ℕ };
+
+    // its bytes
+    ghost bytes: { Self → List ℕ };
+
+    const SIZE: usize;
+
+    // The number that a part of that size stands for.
+    fn of_bytes(part: &[u8]) -> Self
+        requires { length part.now ≡ SIZE }
+        ensures { value result ≡ be SIZE part.now 0 };
+
+    // Its bytes, over a part of that size.
+    fn give_bytes(self, part: &mut [u8])
+        requires { length part.old ≡ SIZE }
+        ensures { part.new ≡ bytes self };
+
+    // Its value tells it apart.
+    ghost told: { (x y : Self) → value x ≡ value y → x ≡ y };
+
+    // Its bytes are those of its value.
+    ghost bytes_are: { (x : Self) → value x < 256 ^ SIZE → bytes x ≡ digits SIZE (value x) };
 }
 
-// ---- a number and its bytes, the lowest first, as the machine has them: each compiles to one load, turn or store
+impl Number for u8 {
+    ghost SIZE = { 1 };
 
-fn swap16(n: u16) -> u16
-    ensures { result ≡ swapped 2 n }
-{
-    n % 256 * 256 + n / 256 % 256
+    ghost value = { λ n. n };
+
+    ghost bytes = { λ n. n ∷ [] };
+
+    ghost told = { λ x y e. e };
+
+    ghost bytes_are = { λ x h. ap (λ m. m ∷ []) (sym (mod-eq_of_lt h)) };
+
+    const SIZE: usize = 1;
+
+    fn of_bytes(part: &[u8]) -> u8 {
+        part[0]
+    }
+
+    fn give_bytes(self, part: &mut [u8]) {
+        part[0] = self;
+    }
 }
 
-fn swap32(n: u32) -> u32
-    ensures { result ≡ swapped 4 n }
-{
-    n % 256 * 16777216
-        + (n / 256 % 256 * 65536 + (n / 256 / 256 % 256 * 256 + n / 256 / 256 / 256 % 256))
+impl Number for u16 {
+    ghost SIZE = { 2 };
+
+    ghost value = { λ n. n };
+
+    ghost bytes = { λ n. digits 2 n };
+
+    ghost told = { λ x y e. e };
+
+    ghost bytes_are = { λ x h. refl };
+
+    const SIZE: usize = 2;
+
+    fn of_bytes(part: &[u8]) -> u16 {
+        u16::from_be_bytes([part[0], part[1]])
+    }
+
+    fn give_bytes(self, part: &mut [u8]) {
+        part.copy_from_slice(&self.to_be_bytes());
+    }
 }
 
-fn swap64(n: u64) -> u64
-    ensures { result ≡ swapped 8 n }
-{
-    swap32((n % 4294967296) as u32) as u64 * 4294967296 + swap32((n / 4294967296) as u32) as u64
+impl Number for u32 {
+    ghost SIZE = { 4 };
+
+    ghost value = { λ n. n };
+
+    ghost bytes = { λ n. digits 4 n };
+
+    ghost told = { λ x y e. e };
+
+    ghost bytes_are = { λ x h. refl };
+
+    const SIZE: usize = 4;
+
+    fn of_bytes(part: &[u8]) -> u32 {
+        u32::from_be_bytes([part[0], part[1], part[2], part[3]])
+    }
+
+    fn give_bytes(self, part: &mut [u8]) {
+        part.copy_from_slice(&self.to_be_bytes());
+    }
 }
 
-fn load16(s: &[u8], at: usize) -> u16
-    requires { at + 2 ≤ length s.now }
-    ensures { swapped 2 result ≡ be 2 s.now at }
-{
-    (wide(s[at]) + wide(s[at + 1]) * 256) as u16
+impl Number for u64 {
+    ghost SIZE = { 8 };
+
+    ghost value = { λ n. n };
+
+    ghost bytes = { λ n. digits 8 n };
+
+    ghost told = { λ x y e. e };
+
+    ghost bytes_are = { λ x h. refl };
+
+    const SIZE: usize = 8;
+
+    fn of_bytes(part: &[u8]) -> u64 {
+        u64::from_be_bytes([
+            part[0], part[1], part[2], part[3], part[4], part[5], part[6], part[7],
+        ])
+    }
+
+    fn give_bytes(self, part: &mut [u8]) {
+        part.copy_from_slice(&self.to_be_bytes());
+    }
 }
 
-fn load32(s: &[u8], at: usize) -> u32
-    requires { at + 4 ≤ length s.now }
-    ensures { swapped 4 result ≡ be 4 s.now at }
+// The number that stands at `at`: a load, and a turn of its bytes.
+#[tactic(auto, using(crate::proofs::Laws::be_part))]
+pub fn read<T: Number>(s: &[u8], at: usize) -> T
+    requires { at + T.SIZE ≤ length s.now }
+    ensures { T.value result ≡ be T.SIZE s.now at }
 {
-    load16(s, at + 2) as u32 * 65536 + load16(s, at) as u32
+    T::of_bytes(&s[at..at + T::SIZE])
 }
 
-fn load64(s: &[u8], at: usize) -> u64
-    requires { at + 8 ≤ length s.now }
-    ensures { swapped 8 result ≡ be 8 s.now at }
+// The bytes of n, from `at` on: a turn, and a store.
+#[tactic(auto, using(crate::proofs::Laws::mid_put))]
+pub fn put<T: Number>(s: &mut [u8], at: usize, n: T)
+    requires { at + T.SIZE ≤ length s.old }
+    ensures { s.new ≡ put s.old at (T.bytes n) }
 {
-    load32(s, at + 4) as u64 * 4294967296 + load32(s, at) as u64
+    n.give_bytes(&mut s[at..at + T::SIZE]);
 }
 
-fn store16(s: &mut [u8], at: usize, n: u16)
-    requires { at + 2 ≤ length s.old }
-    ensures { s.new ≡ put s.old at (low_first 2 n) }
-{
-    s[at] = (n % 256) as u8;
-    s[at + 1] = (n / 256 % 256) as u8;
-}
-
-fn store32(s: &mut [u8], at: usize, n: u32)
-    requires { at + 4 ≤ length s.old }
-    ensures { s.new ≡ put s.old at (low_first 4 n) }
-{
-    s[at] = (n % 256) as u8;
-    s[at + 1] = (n / 256 % 256) as u8;
-    s[at + 2] = (n / 256 / 256 % 256) as u8;
-    s[at + 3] = (n / 256 / 256 / 256 % 256) as u8;
-}
-
-fn store64(s: &mut [u8], at: usize, n: u64)
-    requires { at + 8 ≤ length s.old }
-    ensures { s.new ≡ put s.old at (low_first 8 n) }
-{
-    store32(s, at, (n % 4294967296) as u32);
-    store32(s, at + 4, (n / 4294967296) as u32);
-}
-
-// ---- big-endian numbers
-
-pub fn read16(s: &[u8], at: usize) -> u16
-    requires { at + 2 ≤ length s.now }
-    ensures { result ≡ be 2 s.now at }
-{
-    swap16(load16(s, at))
-}
-
-pub fn read32(s: &[u8], at: usize) -> u32
-    requires { at + 4 ≤ length s.now }
-    ensures { result ≡ be 4 s.now at }
-{
-    swap32(load32(s, at))
-}
-
-pub fn read64(s: &[u8], at: usize) -> u64
-    requires { at + 8 ≤ length s.now }
-    ensures { result ≡ be 8 s.now at }
-{
-    swap64(load64(s, at))
-}
-
-// Whether two numbers of eight bytes are the same: the bytes need no turning.
+// Whether two numbers of eight bytes are the same: neither is turned.
 pub fn same64(s: &[u8], at: usize, t: &[u8], to: usize) -> bool
     requires { (at + 8 ≤ length s.now) × (to + 8 ≤ length t.now) }
     ensures { result ≡ eqb (be 8 s.now at) (be 8 t.now to) }
 {
-    load64(s, at) == load64(t, to)
-}
-
-pub fn put8(s: &mut [u8], at: usize, b: u8)
-    requires { at + 1 ≤ length s.old }
-    ensures { s.new ≡ put s.old at (b ∷ []) }
-{
-    s[at] = b;
-}
-
-pub fn put16(s: &mut [u8], at: usize, n: u16)
-    requires { at + 2 ≤ length s.old }
-    ensures { s.new ≡ put s.old at (digits 2 n) }
-{
-    store16(s, at, swap16(n));
-}
-
-pub fn put32(s: &mut [u8], at: usize, n: u32)
-    requires { at + 4 ≤ length s.old }
-    ensures { s.new ≡ put s.old at (digits 4 n) }
-{
-    store32(s, at, swap32(n));
-}
-
-pub fn put64(s: &mut [u8], at: usize, n: u64)
-    requires { at + 8 ≤ length s.old }
-    ensures { s.new ≡ put s.old at (digits 8 n) }
-{
-    store64(s, at, swap64(n));
-}
-
-// All of src, from `at` on, byte by byte.
-fn put_short(s: &mut [u8], at: usize, src: &[u8])
-    requires { at + length src.now ≤ length s.old }
-    ensures { s.new ≡ put s.old at src.now }
-{
-    let mut i = 0;
-    while i < src.len() {
-        s[at + i] = src[i];
-        i += 1;
-    }
-}
-
-// The word of src from i on, to its place in s.
-fn put_word(s: &mut [u8], at: usize, src: &[u8], i: usize)
-    requires { (at + length src.now ≤ length s.old) × (i + 8 ≤ length src.now) }
-    ensures { s.new ≡ put s.old (at + i) (take 8 (drop i src.now)) }
-{
-    put64(s, at + i, read64(src, i));
-}
-
-// All of src, from `at` on, by words; the last may go over bytes that the one before it put.
-fn put_words(s: &mut [u8], at: usize, src: &[u8])
-    requires { (at + length src.now ≤ length s.old) × (8 ≤ length src.now) }
-    ensures { s.new ≡ put s.old at src.now }
-{
-    let last = src.len() - 8;
-    let mut i = 0;
-    while i < last {
-        put_word(s, at, src, i);
-        i += 8;
-    }
-    put_word(s, at, src, last);
+    read::<u64>(s, at) == read::<u64>(t, to)
 }
 
 // All of src, from `at` on.
+#[tactic(auto, using(crate::proofs::Laws::mid_put))]
 pub fn put_bytes(s: &mut [u8], at: usize, src: &[u8])
     requires { at + length src.now ≤ length s.old }
     ensures { s.new ≡ put s.old at src.now }
 {
-    if src.len() < 8 {
-        put_short(s, at, src);
-    } else {
-        put_words(s, at, src);
-    }
+    s[at..at + src.len()].copy_from_slice(src);
 }
 
 // n zeros, from `at` on.
+#[tactic(auto, using(crate::proofs::Laws::mid_put))]
 pub fn put_zeros(s: &mut [u8], at: usize, n: usize)
     requires { at + n ≤ length s.old }
     ensures { s.new ≡ put s.old at (replicate n 0) }
 {
-    let mut i = 0;
-    while i < n {
-        s[at + i] = 0;
-        i += 1;
-    }
+    s[at..at + n].fill(0);
 }

@@ -25,12 +25,12 @@ fn fields(p: &[u8]) -> Head
     Head {
         op: p[0],
         answer: p[1],
-        from: be::read16(p, 2),
-        to: be::read16(p, 4),
-        client: be::read16(p, 6),
-        request: be::read32(p, 8),
-        stamp: Stamp(be::read32(p, 12)),
-        version: Version::new(be::read16(p, SESSION_AT), be::read32(p, 20)),
+        from: be::read(p, 2),
+        to: be::read(p, 4),
+        client: be::read(p, 6),
+        request: be::read(p, 8),
+        stamp: Stamp(be::read(p, 12)),
+        version: Version::new(be::read(p, SESSION_AT), be::read(p, 20)),
         length: p[LENGTH_AT],
     }
 }
@@ -155,13 +155,13 @@ fn put_front(out: &mut [u8], h: Head)
     ensures { out.new ≡ put out.old 0 (front_of h) }
 {
     let stamp = h.stamp;
-    be::put8(out, 0, h.op);
-    be::put8(out, 1, h.answer);
-    be::put16(out, 2, h.from);
-    be::put16(out, 4, h.to);
-    be::put16(out, 6, h.client);
-    be::put32(out, 8, h.request);
-    be::put32(out, 12, stamp.0);
+    be::put(out, 0, h.op);
+    be::put(out, 1, h.answer);
+    be::put(out, 2, h.from);
+    be::put(out, 4, h.to);
+    be::put(out, 6, h.client);
+    be::put(out, 8, h.request);
+    be::put(out, 12, stamp.0);
 }
 
 // Session to value.
@@ -172,10 +172,10 @@ fn put_back(out: &mut [u8], h: Head, key: &[u8], value: &[u8])
     let v = h.version;
     let s = v.session;
     let q = v.sequence;
-    be::put16(out, SESSION_AT, s.0);
-    be::put8(out, LENGTH_AT, h.length);
-    be::put8(out, ZERO_AT, 0);
-    be::put32(out, 20, q.0);
+    be::put(out, SESSION_AT, s.0);
+    be::put(out, LENGTH_AT, h.length);
+    be::put(out, ZERO_AT, 0u8);
+    be::put(out, 20, q.0);
     be::put_bytes(out, KEY_AT, key);
     be::put_bytes(out, wire::FRONT_SIZE, value);
 }

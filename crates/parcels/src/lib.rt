@@ -72,7 +72,7 @@ fn to(area: &Area, p: usize) -> u16
     if s.len() < TO_SIZE {
         return CLIENT;
     }
-    be::read16(s, 0)
+    be::read(s, 0)
 }
 
 // The value of the packet that an area begins with.
@@ -121,9 +121,9 @@ fn put(area: &mut [u8], n: usize, to: u16, outlet: Outlet)
     ensures { area.new ≡ placed area.old n to outlet }
 {
     let at = PARCEL_SIZE * n;
-    be::put16(area, at, to);
+    be::put(area, at, to);
     be::put_bytes(area, at + TO_SIZE, &outlet[..]);
-    be::put8(area, COUNT_AT, (n + 1) as u8);
+    be::put(area, COUNT_AT, (n + 1) as u8);
 }
 
 // The packet in an outlet becomes a parcel, if there is room.

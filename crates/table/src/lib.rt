@@ -28,7 +28,7 @@ pub fn fence(t: &[u8]) -> Stamp
     if t.len() < HEAD_SIZE {
         return Stamp(0);
     }
-    Stamp(be::read32(t, 0))
+    Stamp(be::read(t, 0))
 }
 
 pub fn id(t: &[u8]) -> u16
@@ -37,7 +37,7 @@ pub fn id(t: &[u8]) -> u16
     if t.len() < HEAD_SIZE {
         return 0;
     }
-    be::read16(t, 4)
+    be::read(t, 4)
 }
 
 pub fn count(t: &[u8]) -> u16
@@ -46,7 +46,7 @@ pub fn count(t: &[u8]) -> u16
     if t.len() < HEAD_SIZE {
         return 0;
     }
-    be::read16(t, 6)
+    be::read(t, 6)
 }
 
 // ---- the parts of a slot
@@ -86,7 +86,7 @@ pub fn version(r: &[u8]) -> Version
     ensures { result ≡ version_part r.now }
 {
     if r.len() == ROW_SIZE {
-        return Version::new(be::read16(r, 18), be::read32(r, 20));
+        return Version::new(be::read(r, 18), be::read(r, 20));
     }
     Version::new(0, 0)
 }
@@ -145,8 +145,8 @@ fn frame_ok(t: &[u8]) -> bool
     if t.len() < HEAD_SIZE {
         return false;
     }
-    let n = be::read16(t, 6) as usize;
-    (be::read16(t, 4) != 0)
+    let n = be::read::<u16>(t, 6) as usize;
+    (be::read::<u16>(t, 4) != 0)
         & (((0 < n) & (n <= MOST_SLOTS)) & (t.len() == HEAD_SIZE + ROW_SIZE * n))
 }
 
@@ -155,7 +155,7 @@ pub fn good(t: &[u8]) -> bool
     ensures { result ≡ table_ok t.now }
 {
     if frame_ok(t) {
-        return rules::rows_ok(t, be::read16(t, 6) as usize);
+        return rules::rows_ok(t, be::read::<u16>(t, 6) as usize);
     }
     false
 }
@@ -171,8 +171,8 @@ fn fill(part: &mut [u8], key: &[u8], state: u8, v: Version, value: &[u8])
     be::put_bytes(part, 0, key);
     part[STATE_AT] = state;
     part[SIZE_AT] = value.len() as u8;
-    be::put16(part, 18, v.session.0);
-    be::put32(part, 20, v.sequence.0);
+    be::put(part, 18, v.session.0);
+    be::put(part, 20, v.sequence.0);
     be::put_bytes(part, VALUE_AT, value);
 }
 
@@ -201,7 +201,7 @@ pub fn set_fence(t: &mut [u8], n: Stamp)
     if t.len() < HEAD_SIZE {
         return;
     }
-    be::put32(t, 0, n.0);
+    be::put(t, 0, n.0);
 }
 
 // Slot i of one table to slot i of another.
@@ -224,8 +224,8 @@ fn clear(t: &mut [u8], id: u16, n: u16)
 {
     let all = t.len();
     be::put_zeros(t, 0, all);
-    be::put16(t, 4, id);
-    be::put16(t, 6, n);
+    be::put(t, 4, id);
+    be::put(t, 6, n);
 }
 
 // Makes a blank table of the slice, or writes nothing.

@@ -6,11 +6,11 @@ pub returns : goal.returns
 returns c =
     fields_are
     c.args.p.now
-    c.read16.ensures
-    c.read16-2.ensures
-    c.read16-3.ensures
-    c.read32.ensures
-    c.read32-2.ensures
+    c.read.ensures
+    c.read-2.ensures
+    c.read-3.ensures
+    c.read-4.ensures
+    c.read-5.ensures
     c.new.ensures
-    c.read16-4.ensures
-    c.read32-3.ensures
+    c.read-6.ensures
+    c.read-7.ensures

@@ -6,4 +6,4 @@ use Rattle.parcels.proofs.put.Goals as goal
 pub returns : goal.returns
 returns c =
     let s = c.args in
-    puts_placed s.area.now _ _ _ s.outlet s.n s.to (omega arith) c.put16.ensures c.put_bytes.ensures c.put8.ensures
+    puts_placed s.area.now _ _ _ s.outlet s.n s.to (omega arith) c.put.ensures c.put_bytes.ensures c.put-2.ensures

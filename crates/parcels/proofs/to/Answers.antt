@@ -16,4 +16,4 @@ pub returns : goal.returns
 returns c =
     let a = c.args.area.now in
     let e = part_of_lem a _ _ c.args.p c.count.ensures c.part-s.ensures in
-    c.read16.ensures ∙ to_there a _ c.args.p (omega arith) e (omega arith)
+    c.read.ensures ∙ to_there a _ c.args.p (omega arith) e (omega arith)

@@ -11,4 +11,4 @@ returns-then-t-lt-HEAD_SIZE c = sym (pick_false _ _ _ (lt-leb _ _ c.if-t-lt-HEAD
 
 pub returns : goal.returns
 unfolding count_part
-returns c = c.read16.ensures ∙ sym (pick_true _ _ _ (le-leb _ _ c.if-t-lt-HEAD_SIZE.false))
+returns c = c.read.ensures ∙ sym (pick_true _ _ _ (le-leb _ _ c.if-t-lt-HEAD_SIZE.false))

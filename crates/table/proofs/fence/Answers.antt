@@ -12,4 +12,4 @@ returns-then-t-lt-HEAD_SIZE c = sym (pick_false _ _ _ (lt-leb _ _ c.if-t-lt-HEAD
 
 pub returns : goal.returns
 unfolding fence_part
-returns c = ap stamp c.read32.ensures ∙ sym (pick_true _ _ _ (le-leb _ _ c.if-t-lt-HEAD_SIZE.false))
+returns c = ap stamp c.read.ensures ∙ sym (pick_true _ _ _ (le-leb _ _ c.if-t-lt-HEAD_SIZE.false))

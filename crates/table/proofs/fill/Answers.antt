@@ -20,7 +20,7 @@ returns c =
     let g2 = grow s.key.now key_size (start c.put_zeros.new.s) c.put_bytes.ensures (omega arith) in
     let g3 = grow (s.state ∷ []) size_at g2 (sets_put (s.state ∷ []) l state_at (omega arith)) refl in
     let g4 = grow (n ∷ []) 18 g3 (sets_put (n ∷ []) l' size_at (omega arith)) refl in
-    let g5 = grow (digits 2 s.v.session.0) 20 g4 c.put16.ensures refl in
-    let g6 = grow (digits 4 s.v.sequence.0) value_at g5 c.put32.ensures refl in
+    let g5 = grow (digits 2 s.v.session.0) 20 g4 c.put.ensures refl in
+    let g6 = grow (digits 4 s.v.sequence.0) value_at g5 c.put-2.ensures refl in
     let g7 = grow s.value.now (value_at + n) g6 c.put_bytes-2.ensures refl in
     behind g7 (ap (drop (value_at + n)) c.put_zeros.ensures ∙ drop_cleared s.part.now value_at value_size n (omega arith) (omega arith))

@@ -10,4 +10,4 @@ returns-then-t-lt-HEAD_SIZE c = rw (lt-leb head_size (length c.args.t.now) c.if-
 
 pub returns : goal.returns
 unfolding frame_ok
-returns c = rw (le-leb head_size (length c.args.t.now) c.if-t-lt-HEAD_SIZE.false, c.read16.ensures, c.read16-n.ensures)
+returns c = rw (le-leb head_size (length c.args.t.now) c.if-t-lt-HEAD_SIZE.false, c.read.ensures, c.read-n.ensures)

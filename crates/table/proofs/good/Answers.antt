@@ -4,20 +4,20 @@ use Rattle.store.proofs.Rules.{reflect_frame}
 use Rattle.store.specs.Table.{count_of, rows_ok, table_ok}
 use Rattle.table.proofs.good.Goals as goal
 
-pub read16-requires : goal.read16-requires
-read16-requires c =
+pub read-requires : goal.read-requires
+read-requires c =
     omega (arith, ((reflect_frame c.args.t.now).0 (sym c.frame_ok.ensures ∙ c.if-frame_ok.true)).size)
 
 pub rows_ok-requires : goal.rows_ok-requires
 rows_ok-requires c =
-    omega (arith, ((reflect_frame c.args.t.now).0 (sym c.frame_ok.ensures ∙ c.if-frame_ok.true)).size, c.read16.ensures)
+    omega (arith, ((reflect_frame c.args.t.now).0 (sym c.frame_ok.ensures ∙ c.if-frame_ok.true)).size, c.read.ensures)
 
 pub returns-then-frame_ok : goal.returns-then-frame_ok
 unfolding table_ok
 returns-then-frame_ok c =
     let t = c.args.t.now in
     c.rows_ok.ensures
-    ∙ ap (λ (n : ℕ). rows_ok n 0 t) c.read16.ensures
+    ∙ ap (λ (n : ℕ). rows_ok n 0 t) c.read.ensures
     ∙ sym (ap (λ (b : Bool). b && rows_ok (count_of t) 0 t) (sym c.frame_ok.ensures ∙ c.if-frame_ok.true))
 
 pub returns : goal.returns

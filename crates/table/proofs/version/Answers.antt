@@ -10,7 +10,7 @@ pub returns-then-r-eq-ROW_SIZE : goal.returns-then-r-eq-ROW_SIZE
 unfolding version_part slot_of
 returns-then-r-eq-ROW_SIZE c =
     c.new.ensures
-    ∙ ap₂ version c.read16.ensures c.read32.ensures
+    ∙ ap₂ version c.read.ensures c.read-then-r-eq-ROW_SIZE.ensures
     ∙ sym (pick_true _ _ _ (eq-eqb _ _ c.if-r-eq-ROW_SIZE.true))
 
 pub returns : goal.returns
