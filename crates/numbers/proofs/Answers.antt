@@ -24,16 +24,16 @@ use Rattle.numbers.specs.Answers.{client_code, outcome_code}
 -- an outcome that a number tells: a node has an id, and a refusal is below the client's number
 abbrev pub Told : Outcome → Type 0
 Told (ok (ToNode j)) = 0 < j
-Told ToClient = Unit {0}
+Told (ok ToClient) = Unit {0}
 Told (refuse n) = n < client_code
 
 pub code_told : (o p : Outcome) → Told o → Told p → outcome_code o ≡ outcome_code p → o ≡ p
-code_told (ok (ToNode i)) (ok (ToNode j)) h k e = ap ToNode (omega arith)
+code_told (ok (ToNode i)) (ok (ToNode j)) h k e = ap (λ (k : ℕ). ok (ToNode k)) (omega arith)
 code_told (ok (ToNode i)) (ok ToClient) h k e = absurd (omega arith)
 code_told (ok (ToNode i)) (refuse n) h k e = absurd (omega arith)
-code_told ToClient (ok (ToNode j)) h k e = absurd (omega arith)
-code_told ToClient ToClient h k e = refl
-code_told ToClient (refuse n) h k e = absurd (omega arith)
+code_told (ok ToClient) (ok (ToNode j)) h k e = absurd (omega arith)
+code_told (ok ToClient) (ok ToClient) h k e = refl
+code_told (ok ToClient) (refuse n) h k e = absurd (omega arith)
 code_told (refuse m) (ok (ToNode j)) h k e = absurd (omega arith)
 code_told (refuse m) (ok ToClient) h k e = absurd (omega arith)
 code_told (refuse m) (refuse n) h k e = ap refuse e

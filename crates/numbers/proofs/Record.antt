@@ -20,8 +20,8 @@ use Rattle.store.specs.Table.{tab}
 use Rattle.chain.proofs.Places.{by_place}
 use Rattle.steps.specs.declared.Joining.{Joining}
 use Rattle.steps.specs.declared.Change.{Change}
+use Rattle.steps.specs.declared.Chain.{Chain}
 use Rattle.steps.specs.declared.Change.TheVariants.{Still, Before, After}
-use Rattle.steps.specs.declared.Ruling.{Ruling}
 use Rattle.steps.specs.Chain.{most_nodes}
 use Rattle.numbers.specs.Record.{record_size, top_byte, top_id, kind_none, kind_before, within, low_bits, change_fits, record_fits, change_of, joining_in, places_made, joining_made, chain_of, record_of, record_or, no_record, ChangeStands, Stands, numbers_of, Settles, places_of}
 
@@ -155,21 +155,21 @@ module _ (l : List ℕ) (s : Stands l) where
 pub stores : (vs : List ℕ) {ws : List ℕ} (l : List ℕ) (at : ℕ) → at + length vs ≤ length l → vs ≡ ws → sets l at vs ≡ put l at ws
 stores vs l at h e = sets_put vs l at h ∙ ap (put l at) e
 
-module _ (l : List ℕ) (r : Ruling) where
+module _ (l : List ℕ) (number : ℕ) (r : Chain) where
   -- done, and there is room
   abbrev given : Bool
-  given = eqb r.number 0 && eqb (length l) record_size
+  given = eqb number 0 && eqb (length l) record_size
 
   pub settled_size : given ≡ true → length l ≡ record_size
-  settled_size e = eqb-true (length l) record_size (and_right (eqb r.number 0) (eqb (length l) record_size) e)
+  settled_size e = eqb-true (length l) record_size (and_right (eqb number 0) (eqb (length l) record_size) e)
 
-  pub settled : {l' : List ℕ} → given ≡ true → l' ≡ numbers_of r.chain → Settles l r 0 l'
+  pub settled : {l' : List ℕ} → given ≡ true → l' ≡ numbers_of r → Settles l number r 0 l'
   settled e f = record {
-    number = sym (eqb-true r.number 0 (and_left (eqb r.number 0) (eqb (length l) record_size) e));
+    number = sym (eqb-true r.number 0 (and_left (eqb number 0) (eqb (length l) record_size) e));
     numbers = f ∙ sym (pick_true given _ _ e);
   }
 
-  pub unsettled : given ≡ false → Settles l r r.number l
+  pub unsettled : given ≡ false → Settles l number r number l
   unsettled e = record { number = refl; numbers = sym (pick_false given _ _ e) }
 
 -- ---- ids in chain order

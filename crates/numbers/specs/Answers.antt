@@ -1,7 +1,6 @@
 -- Answers that are enums, each as one number, as they cross to C.
-use Rattle.std.specs.Prelude.{ℕ, ◌+◌, ltb}
-use Rattle.wire.specs.Numbers.{pick}
-use Rattle.std.specs.Prelude.{Option, Some, None}
+use Rattle.std.specs.Prelude.{ℕ, ◌+◌, ltb, Option, Some, None}
+use Rattle.wire.specs.Numbers.{refuse, ok, pick}
 use Rattle.steps.specs.Relay.{Outcome}
 use Rattle.steps.specs.declared.Destination.TheVariants.{ToNode, ToClient}
 
@@ -11,7 +10,7 @@ client_code = 65536
 
 abbrev pub outcome_code : Outcome → ℕ
 outcome_code (ok (ToNode j)) = client_code + j
-outcome_code ToClient = client_code
+outcome_code (ok ToClient) = client_code
 outcome_code (refuse n) = n
 
 -- no slot below this number has the key

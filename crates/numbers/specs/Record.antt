@@ -8,7 +8,6 @@ use Rattle.steps.specs.declared.Joining.{Joining}
 use Rattle.steps.specs.declared.Change.{Change}
 use Rattle.steps.specs.declared.Change.TheVariants.{Still, Before, After}
 use Rattle.steps.specs.declared.Chain.{Chain}
-use Rattle.steps.specs.declared.Ruling.{Ruling}
 use Rattle.steps.specs.Chain.{most_nodes, joining}
 
 abbrev pub record_size : ℕ
@@ -161,9 +160,9 @@ pub record Sized (c : Chain) : Type 0 where
   pub change : ChangeSized c.change
 
 -- what is made of a step on the record: its number, and the numbers of its record where it is done and the list has room for just them
-pub record Settles (l : List ℕ) (r : Ruling) (n : ℕ) (l' : List ℕ) : Type 0 where
-  pub number : ◌≡◌ {A = ℕ} n r.number
-  pub numbers : ◌≡◌ {A = List ℕ} l' (pick (eqb r.number 0 && eqb (length l) record_size) (numbers_of r.chain) l)
+pub record Settles (l : List ℕ) (given : ℕ) (r : Chain) (n : ℕ) (l' : List ℕ) : Type 0 where
+  pub number : ◌≡◌ {A = ℕ} n given
+  pub numbers : ◌≡◌ {A = List ℕ} l' (pick (eqb given 0 && eqb (length l) record_size) (numbers_of r) l)
 
 -- ---- ids in chain order
 

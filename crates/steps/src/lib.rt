@@ -7,7 +7,7 @@ ghost use Rattle.steps.specs.Chain.{joined, is_open};
 use wire::{Refusal, Session, Stamp};
 
 // A node that joins at a named one: its id, whether the named node is fenced, and the next slot to copy.
-#[derive(Clone, Copy)]
+#[derive(Clone, Copy, Default)]
 pub struct Joining {
     pub named: u16,
     pub fresh: u16,
@@ -15,8 +15,9 @@ pub struct Joining {
     pub next: u16,
 }
 
-#[derive(Clone, Copy)]
+#[derive(Clone, Copy, Default)]
 pub enum Change {
+    #[default]
     Still,
     Before(Joining),
     After(Joining),
@@ -41,7 +42,7 @@ impl Change {
 }
 
 // The eight places are in chain order; those from length on are 0.
-#[derive(Clone, Copy)]
+#[derive(Clone, Copy, Default)]
 pub struct Chain {
     pub length: u8,
     pub places: [u16; 8],

@@ -1,13 +1,10 @@
--- `numbers::fields_fit`: the tests of all numbers.
-use mathlib.Core.Bool.{◌&&◌}
-use Rattle.std.proofs.Common.{sym, ap₂, ◌∙◌}
-use Rattle.numbers.proofs.Fields.{fits_not, fits_is}
+use Rattle.std.proofs.Common.{rules, ◌≡◌, ℕ, ◌+◌, ◌-◌, ◌*◌, ◌<◌, ◌≤◌, length, ◌/◌, ◌%◌, Bool, true, false, nat_eq, nat_lt, List, [], ◌∷◌, ◌++◌, slice_index_or, slice_set, bit_and, bit_or, Fits, w8, w32, w64, Bor, MutBor}
+use Rattle.wire.specs.Numbers.{code, said}
+use Rattle.numbers.specs.Record.{top_byte, top_id, low_bits, change_fits, record_fits, record_or, places_made, joining_made, chain_of, change_of, Stands, kind_of, numbers_of, Settles, places_of}
+use Rattle.numbers.specs.Fields.{fields_fit, head_from, FieldsStand, head_or, fields_of, fields_given}
+use Rattle.numbers.specs.Answers.{outcome_code, found_code}
 use Rattle.numbers.proofs.fields_fit.Goals as goal
 
-pub returns-then-f-ne-FIELDS_SIZE : goal.returns-then-f-ne-FIELDS_SIZE
-returns-then-f-ne-FIELDS_SIZE c = sym (fits_not _ c.if-f-ne-FIELDS_SIZE.true)
-
+-- src/lib.rt:182:1
 pub returns : goal.returns
-returns c =
-    ap₂ ◌&&◌ (ap₂ ◌&&◌ c.byte_fits.ensures c.byte_fits-2.ensures) (ap₂ ◌&&◌ (ap₂ ◌&&◌ (ap₂ ◌&&◌ c.id_fits.ensures c.id_fits-2.ensures) c.id_fits-3.ensures) (ap₂ ◌&&◌ c.id_fits-4.ensures c.byte_fits-3.ensures))
-    ∙ fits_is _ c.if-f-ne-FIELDS_SIZE.false
+returns c = ?
