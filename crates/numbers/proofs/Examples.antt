@@ -109,7 +109,7 @@ fields_fit_lem = refl
 
 -- ---- answers: to the client, to nodes 1 and 65,535, dropped; slots 0 and 255, and none
 
-pub outcome_codes : map outcome_code ((ok ToClient) ∷ ok (ToNode 1) ∷ ToNode 65535 ∷ refuse 6 ∷ []) ≡ 65536 ∷ 65537 ∷ 131071 ∷ 6 ∷ []
+pub outcome_codes : map outcome_code (ok ToClient ∷ ok (ToNode 1) ∷ ok (ToNode 65535) ∷ refuse 6 ∷ []) ≡ 65536 ∷ 65537 ∷ 131071 ∷ 6 ∷ []
 outcome_codes = refl
 
 pub found_codes : map found_code (Some 0 ∷ Some 255 ∷ None ∷ []) ≡ 0 ∷ 255 ∷ 65536 ∷ []

@@ -1,14 +1,12 @@
 -- The fields that the code makes of numbers are those that they stand for.
 use Prim.Native.Nat.{ℕ, zero, suc, ◌+◌, ◌<◌, ◌≤◌}
-use mathlib.Core.Path.{◌≡◌, refl, sym, ◌∙◌}
-use mathlib.Core.List.{List, [], ◌∷◌}
-use mathlib.Core.Bool.{false, ◌&&◌}
+use mathlib.Core.Path.{◌≡◌}
+use mathlib.Core.List.{List}
+use mathlib.Core.Bool.{◌&&◌}
 use native.Mathlib.Omega.{arith}
 use lib.ListN.{length, get_or}
 use lib.Dec.{leb}
 use borrow.Author.Tests.{eq-eqb, ne_eqb}
-use Rattle.be.specs.Be.{put}
-use Rattle.be.proofs.Laws.{start, grow, finish}
 use Rattle.wire.specs.Version.{stamp, version}
 use Rattle.wire.specs.declared.Head.{Head}
 use Rattle.wire.specs.declared.Version.{Version}
@@ -55,10 +53,6 @@ reflect_fields f =
     ids s (suc (suc (suc i))) h = absurd (omega arith)
 
 -- the tests of the code: the length first, and the others only of numbers that are there
-pub fits_not : (f : List ℕ) → (length f ≡ fields_size → ⊥) → fields_fit f ≡ false
-unfolding fields_fit
-fits_not f n = rw (ne_eqb (length f) fields_size n)
-
 pub fits_is : (f : List ℕ) → length f ≡ fields_size
     → (within top_byte 2 f 0 && (within top_id 3 f 2 && (leb (get_or f 7 0) top_id && leb (get_or f 9 0) top_byte))) ≡ fields_fit f
 unfolding fields_fit
@@ -83,13 +77,9 @@ head_is f s a b c d e g v l = cc (low_bits_lem s.op, low_bits_lem s.answer, low_
 
 -- ---- going out
 
--- in two parts, one behind the other
-pub given : {g k : List ℕ} (f : List ℕ) (h : Head) → length f ≡ fields_size
-    → g ≡ put f 0 (h.op ∷ h.answer ∷ h.from ∷ h.to ∷ h.client ∷ [])
-    → k ≡ put g 5 (h.request ∷ h.stamp.0 ∷ h.version.session.0 ∷ h.version.sequence.0 ∷ h.length ∷ [])
-    → k ≡ fields_given f h
-unfolding fields_given fields_of
-given f h e p q = finish (grow _ fields_size (grow _ 5 (start f) p refl) q refl) (omega arith) ∙ sym (pick_true _ _ _ (eq-eqb (length f) fields_size e))
+pub given : (f : List ℕ) (h : Head) → length f ≡ fields_size → fields_given f h ≡ fields_of h
+unfolding fields_given
+given f h e = pick_true _ _ _ (eq-eqb (length f) fields_size e)
 
 pub not_given : (f : List ℕ) (h : Head) → (length f ≡ fields_size → ⊥) → fields_given f h ≡ f
 unfolding fields_given

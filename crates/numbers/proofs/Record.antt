@@ -1,21 +1,19 @@
 -- The record that the code makes of numbers is the one that they stand for.
 use Prim.Native.Nat.{ℕ, zero, suc, ◌+◌, ◌-◌, ◌<◌, ◌≤◌}
-use mathlib.Core.Path.{◌≡◌, refl, sym, ap, ◌∙◌}
+use mathlib.Core.Path.{◌≡◌, sym, ap, ◌∙◌}
 use mathlib.Core.List.{List, ◌++◌}
-use mathlib.Core.Bool.{Bool, true, false, not, ◌&&◌}
+use mathlib.Core.Bool.{true, false, not, ◌&&◌}
 use mathlib.Core.Logic.{◌⊎◌, ⊎_elim}
 use native.Mathlib.Nat.{mod-eq_of_lt}
 use native.Mathlib.Omega.{arith}
 use native.Mathlib.Decide.{ℕ_discrete, dec_lt}
 use lib.ListN.{length, get_or, take, drop, replicate, length-take, length-drop, length-append, length-replicate, get_or-replicate, get_or-append, get_or-eq_default}
 use lib.Dec.{leb, eqb}
-use lib.Seq.{get_or-take, get_or-drop, get_or-append-add, sets}
-use borrow.Author.Tests.{eq-eqb, ne_eqb, eqb-true}
-use Rattle.be.specs.Be.{put}
-use Rattle.be.proofs.Laws.{sets_put}
+use lib.Seq.{get_or-take, get_or-drop, get_or-append-add}
+use borrow.Author.Tests.{eq-eqb, ne_eqb}
 use Rattle.wire.specs.Numbers.{refuse, ok, left, broken}
 use Rattle.wire.specs.Version.{session, stamp}
-use Rattle.wire.proofs.Numbers.{pick_true, pick_false, and_left, and_right, pass_guard, stop_guard, Reflects, reflects_yes, reflects_no, reflect_true, reflect_eqb, reflect_leb, reflect_and, reflect_or, reflect_iff}
+use Rattle.wire.proofs.Numbers.{pick_true, pick_false, pass_guard, stop_guard, Reflects, reflects_yes, reflects_no, reflect_true, reflect_eqb, reflect_leb, reflect_and, reflect_or, reflect_iff}
 use Rattle.store.specs.Table.{tab}
 use Rattle.chain.proofs.Places.{by_place}
 use Rattle.steps.specs.declared.Joining.{Joining}
@@ -101,10 +99,6 @@ reflect_stands l =
     ids s (suc (suc (suc i))) h = absurd (omega arith)
 
 -- the tests of the code: the length first, and the others only of numbers that are there
-pub fits_not : (l : List ℕ) → (length l ≡ record_size → ⊥) → record_fits l ≡ false
-unfolding record_fits
-fits_not l n = rw (ne_eqb (length l) record_size n)
-
 pub fits_is : (l : List ℕ) → length l ≡ record_size
     → (leb (get_or l 0 0) top_byte && (within top_id 8 l 1 && (within top_id 3 l 10 && change_fits l))) ≡ record_fits l
 unfolding record_fits
@@ -151,26 +145,12 @@ module _ (l : List ℕ) (s : Stands l) where
 
 -- ---- going out
 
--- a run of stores is one put
-pub stores : (vs : List ℕ) {ws : List ℕ} (l : List ℕ) (at : ℕ) → at + length vs ≤ length l → vs ≡ ws → sets l at vs ≡ put l at ws
-stores vs l at h e = sets_put vs l at h ∙ ap (put l at) e
+-- a step that is done, with room for its record, and any other
+pub settled : {l l' : List ℕ} {number n : ℕ} {r : Chain} → n ≡ number → (eqb n 0 && eqb (length l) record_size) ≡ true → l' ≡ numbers_of r → Settles l number r n l'
+settled {l} e b f = record { number = e; numbers = f ∙ sym (pick_true _ _ _ (ap (λ m. eqb m 0 && eqb (length l) record_size) (sym e) ∙ b)) }
 
-module _ (l : List ℕ) (number : ℕ) (r : Chain) where
-  -- done, and there is room
-  abbrev given : Bool
-  given = eqb number 0 && eqb (length l) record_size
-
-  pub settled_size : given ≡ true → length l ≡ record_size
-  settled_size e = eqb-true (length l) record_size (and_right (eqb number 0) (eqb (length l) record_size) e)
-
-  pub settled : {l' : List ℕ} → given ≡ true → l' ≡ numbers_of r → Settles l number r 0 l'
-  settled e f = record {
-    number = sym (eqb-true r.number 0 (and_left (eqb number 0) (eqb (length l) record_size) e));
-    numbers = f ∙ sym (pick_true given _ _ e);
-  }
-
-  pub unsettled : given ≡ false → Settles l number r number l
-  unsettled e = record { number = refl; numbers = sym (pick_false given _ _ e) }
+pub unsettled : {l : List ℕ} {number n : ℕ} {r : Chain} → n ≡ number → (eqb n 0 && eqb (length l) record_size) ≡ false → Settles l number r n l
+unsettled {l} e b = record { number = e; numbers = sym (pick_false _ _ _ (ap (λ m. eqb m 0 && eqb (length l) record_size) (sym e) ∙ b)) }
 
 -- ---- ids in chain order
 

@@ -2,7 +2,7 @@
 
 #![tactic(auto)]
 
-ghost use Rattle.std.specs.Prelude.{◌≡◌};
+ghost use Rattle.std.specs.Prelude.{◌≡◌, get_or};
 ghost use Rattle.wire.specs.Numbers.{code, said};
 ghost use Rattle.numbers.specs.Record.{top_byte, top_id, within, low_bits, change_fits, record_fits, record_or, places_made, joining_made, chain_of, change_of, Stands, kind_of, numbers_of, Settles, places_of};
 ghost use Rattle.numbers.specs.Fields.{fields_fit, head_from, FieldsStand, head_or, fields_of, fields_given};
@@ -10,7 +10,7 @@ ghost use Rattle.numbers.specs.Answers.{outcome_code, found_code};
 
 use std::array;
 use steps::{Chain, Change, Destination, Joining, Outcome};
-use wire::{Head, Refusal, Session, Stamp, Version};
+use wire::{Head, Refusal, Sequence, Session, Stamp, Version};
 
 pub const RECORD_SIZE: usize = 18;
 
@@ -23,6 +23,33 @@ const TOP_ID: u32 = 65535;
 const CLIENT_CODE: u32 = 65536;
 
 const NO_SLOT: u32 = 65536;
+
+// A record that breaks the rules.
+const NO_RECORD: Chain = Chain {
+    length: 0,
+    places: [0; 8],
+    wiring: Stamp(0),
+    session: Session(0),
+    highest: 0,
+    count: 0,
+    change: Change::Still,
+};
+
+// Fields of no packet.
+const NO_HEAD: Head = Head {
+    op: 0,
+    answer: 0,
+    from: 0,
+    to: 0,
+    client: 0,
+    request: 0,
+    stamp: Stamp(0),
+    version: Version {
+        session: Session(0),
+        sequence: Sequence(0),
+    },
+    length: 0,
+};
 
 // The numbers of a record, and those of a packet's fields.
 type Record = [u32; RECORD_SIZE];
@@ -48,7 +75,14 @@ fn byte(n: u32) -> u8
 fn places_fit(l: &Record) -> bool
     ensures { result ≡ within top_id 8 l.now 1 }
 {
-    l[1..9].iter().all(|n| *n <= TOP_ID)
+    (l[1] <= TOP_ID)
+        & (l[2] <= TOP_ID)
+        & (l[3] <= TOP_ID)
+        & (l[4] <= TOP_ID)
+        & (l[5] <= TOP_ID)
+        & (l[6] <= TOP_ID)
+        & (l[7] <= TOP_ID)
+        & (l[8] <= TOP_ID)
 }
 
 fn change_fits(l: &Record) -> bool
@@ -113,10 +147,10 @@ fn chain_at(l: &Record) -> Chain
 pub fn record_of(l: &[u32]) -> Chain
     ensures { result ≡ record_or l.now }
 {
-    match <&Record>::try_from(l) {
-        Ok(l) if fits(l) => chain_at(l),
-        _ => Chain::default(),
-    }
+    let Ok(l) = <&Record>::try_from(l) else {
+        return NO_RECORD;
+    };
+    if fits(l) { chain_at(l) } else { NO_RECORD }
 }
 
 // ---- the record, going out
@@ -131,21 +165,22 @@ fn kind_of(ch: Change) -> u32
     }
 }
 
+#[tactic(auto, unfolding(crate::specs::Record::numbers_of))]
 fn numbers_of(c: Chain) -> Record
     ensures { result ≡ numbers_of c }
 {
-    let [p1, p2, p3, p4, p5, p6, p7, p8] = c.places.map(u32::from);
+    let [p1, p2, p3, p4, p5, p6, p7, p8] = c.places;
     let j = c.change.joining().unwrap_or_default();
     [
         u32::from(c.length),
-        p1,
-        p2,
-        p3,
-        p4,
-        p5,
-        p6,
-        p7,
-        p8,
+        u32::from(p1),
+        u32::from(p2),
+        u32::from(p3),
+        u32::from(p4),
+        u32::from(p5),
+        u32::from(p6),
+        u32::from(p7),
+        u32::from(p8),
         c.wiring.0,
         u32::from(c.session.0),
         u32::from(c.highest),
@@ -162,19 +197,35 @@ fn numbers_of(c: Chain) -> Record
 pub fn settle(l: &mut [u32], answer: Result<(), Refusal>, c: Chain) -> u8
     ensures { Settles l.old (code answer) c result l.new }
 {
-    if let (Ok(()), Ok(l)) = (answer, <&mut Record>::try_from(l)) {
-        *l = numbers_of(c);
+    let number = wire::number(answer);
+    if (number == 0) & (l.len() == RECORD_SIZE) {
+        l.copy_from_slice(&numbers_of(c));
     }
-    wire::number(answer)
+    number
 }
 
 // ---- ids in chain order
+
+fn id_or(ids: &[u16], i: usize) -> u16
+    ensures { result ≡ get_or ids.now i 0 }
+{
+    ids.get(i).copied().unwrap_or(0)
+}
 
 // The eight places that ids take, unused ones 0.
 pub fn places_of(ids: &[u16]) -> [u16; 8]
     ensures { result ≡ places_of ids.now }
 {
-    array::from_fn(|i| ids.get(i).copied().unwrap_or(0))
+    [
+        id_or(ids, 0),
+        id_or(ids, 1),
+        id_or(ids, 2),
+        id_or(ids, 3),
+        id_or(ids, 4),
+        id_or(ids, 5),
+        id_or(ids, 6),
+        id_or(ids, 7),
+    ]
 }
 
 // ---- the fields of a packet
@@ -208,12 +259,13 @@ fn head_at(f: &Fields) -> Head
 pub fn head_of(f: &[u32]) -> Head
     ensures { result ≡ head_or f.now }
 {
-    match <&Fields>::try_from(f) {
-        Ok(f) if fields_fit(f) => head_at(f),
-        _ => Head::default(),
-    }
+    let Ok(f) = <&Fields>::try_from(f) else {
+        return NO_HEAD;
+    };
+    if fields_fit(f) { head_at(f) } else { NO_HEAD }
 }
 
+#[tactic(auto, unfolding(crate::specs::Fields::fields_of))]
 fn fields_of(h: Head) -> Fields
     ensures { result ≡ fields_of h }
 {
@@ -235,8 +287,8 @@ fn fields_of(h: Head) -> Fields
 pub fn give_fields(f: &mut [u32], h: Head)
     ensures { f.new ≡ fields_given f.old h }
 {
-    if let Ok(f) = <&mut Fields>::try_from(f) {
-        *f = fields_of(h);
+    if f.len() == FIELDS_SIZE {
+        f.copy_from_slice(&fields_of(h));
     }
 }
 

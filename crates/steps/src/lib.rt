@@ -15,9 +15,8 @@ pub struct Joining {
     pub next: u16,
 }
 
-#[derive(Clone, Copy, Default)]
+#[derive(Clone, Copy)]
 pub enum Change {
-    #[default]
     Still,
     Before(Joining),
     After(Joining),
@@ -42,7 +41,7 @@ impl Change {
 }
 
 // The eight places are in chain order; those from length on are 0.
-#[derive(Clone, Copy, Default)]
+#[derive(Clone, Copy)]
 pub struct Chain {
     pub length: u8,
     pub places: [u16; 8],

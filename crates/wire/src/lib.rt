@@ -92,24 +92,24 @@ pub fn first_of<const N: usize>(rows: [(bool, Refusal); N]) -> Result<(), Refusa
     Ok(())
 }
 
-#[derive(Clone, Copy, Default, PartialEq, Eq, PartialOrd, Ord)]
+#[derive(Clone, Copy, PartialEq, Eq, PartialOrd, Ord)]
 pub struct Session(pub u16);
 
-#[derive(Clone, Copy, Default, PartialEq, Eq, PartialOrd, Ord)]
+#[derive(Clone, Copy, PartialEq, Eq, PartialOrd, Ord)]
 pub struct Sequence(pub u32);
 
-#[derive(Clone, Copy, Default, PartialEq, Eq, PartialOrd, Ord)]
+#[derive(Clone, Copy, PartialEq, Eq, PartialOrd, Ord)]
 pub struct Stamp(pub u32);
 
 // Ordered by session first.
-#[derive(Clone, Copy, Default, PartialEq, Eq, PartialOrd, Ord)]
+#[derive(Clone, Copy, PartialEq, Eq, PartialOrd, Ord)]
 pub struct Version {
     pub session: Session,
     pub sequence: Sequence,
 }
 
 // The fields of a packet but for its key and its value, which are parts of the packet's bytes.
-#[derive(Clone, Copy, Default)]
+#[derive(Clone, Copy)]
 pub struct Head {
     pub op: u8,
     pub answer: u8,

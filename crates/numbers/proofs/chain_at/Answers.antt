@@ -1,10 +1,7 @@
-use Rattle.std.proofs.Common.{rules, ◌≡◌, ℕ, ◌+◌, ◌-◌, ◌*◌, ◌<◌, ◌≤◌, length, ◌/◌, ◌%◌, Bool, true, false, nat_eq, nat_lt, List, [], ◌∷◌, ◌++◌, slice_index_or, slice_set, bit_and, bit_or, Fits, w8, w32, w64, Bor, MutBor}
-use Rattle.wire.specs.Numbers.{code, said}
-use Rattle.numbers.specs.Record.{top_byte, top_id, low_bits, change_fits, record_fits, record_or, places_made, joining_made, chain_of, change_of, Stands, kind_of, numbers_of, Settles, places_of}
-use Rattle.numbers.specs.Fields.{fields_fit, head_from, FieldsStand, head_or, fields_of, fields_given}
-use Rattle.numbers.specs.Answers.{outcome_code, found_code}
+-- `numbers::chain_at`: numbers that stand for a record give it.
+use Rattle.numbers.proofs.Record.{chain_is}
 use Rattle.numbers.proofs.chain_at.Goals as goal
 
--- src/lib.rt:97:1
 pub returns : goal.returns
-returns c = ?
+returns c =
+    chain_is c.args.l.now c.requires c.byte.ensures c.places_at.ensures c.id.ensures c.id-2.ensures c.id-3.ensures c.change_of.ensures c.joining_at.ensures

@@ -1,18 +1,13 @@
-use Rattle.std.proofs.Common.{rules, ◌≡◌, ℕ, ◌+◌, ◌-◌, ◌*◌, ◌<◌, ◌≤◌, length, ◌/◌, ◌%◌, Bool, true, false, nat_eq, nat_lt, List, [], ◌∷◌, ◌++◌, slice_index_or, slice_set, bit_and, bit_or, Fits, w8, w32, w64, Bor, MutBor}
-use Rattle.wire.specs.Numbers.{code, said}
-use Rattle.numbers.specs.Record.{top_byte, top_id, low_bits, change_fits, record_fits, record_or, places_made, joining_made, chain_of, change_of, Stands, kind_of, numbers_of, Settles, places_of}
-use Rattle.numbers.specs.Fields.{fields_fit, head_from, FieldsStand, head_or, fields_of, fields_given}
-use Rattle.numbers.specs.Answers.{outcome_code, found_code}
+-- `numbers::change_of`: the state of change by its kind.
+use Rattle.std.proofs.Common.{sym, rules}
+use Rattle.numbers.proofs.Record.{still, before, after}
 use Rattle.numbers.proofs.change_of.Goals as goal
 
--- src/lib.rt:76:1
 pub returns-in-0 : goal.returns-in-0
-returns-in-0 c = ?
+returns-in-0 c = sym (still _ c.in-0.is)
 
--- src/lib.rt:76:1
 pub returns-in-1 : goal.returns-in-1
-returns-in-1 c = ?
+returns-in-1 c = sym (before _ c.in-1.is)
 
--- src/lib.rt:76:1
 pub returns-in_default : goal.returns-in_default
-returns-in_default c = ?
+returns-in_default c = sym (after _ (search rules) (search rules))

@@ -1,10 +1,12 @@
-use Rattle.std.proofs.Common.{rules, ◌≡◌, ℕ, ◌+◌, ◌-◌, ◌*◌, ◌<◌, ◌≤◌, length, ◌/◌, ◌%◌, Bool, true, false, nat_eq, nat_lt, List, [], ◌∷◌, ◌++◌, slice_index_or, slice_set, bit_and, bit_or, Fits, w8, w32, w64, Bor, MutBor}
-use Rattle.wire.specs.Numbers.{code, said}
-use Rattle.numbers.specs.Record.{top_byte, top_id, low_bits, change_fits, record_fits, record_or, places_made, joining_made, chain_of, change_of, Stands, kind_of, numbers_of, Settles, places_of}
-use Rattle.numbers.specs.Fields.{fields_fit, head_from, FieldsStand, head_or, fields_of, fields_given}
-use Rattle.numbers.specs.Answers.{outcome_code, found_code}
+-- `numbers::fits`: the tests of all numbers.
+use mathlib.Core.Bool.{◌&&◌}
+use lib.Dec.{leb}
+use Rattle.std.proofs.Common.{ap₂, ◌∙◌, get_or}
+use Rattle.numbers.proofs.Record.{fits_is}
 use Rattle.numbers.proofs.fits.Goals as goal
 
--- src/lib.rt:62:1
 pub returns : goal.returns
-returns c = ?
+returns c =
+    let l = c.args.l.now in
+    ap₂ (λ p q. leb (get_or l 0 0) 255 && (p && (((leb (get_or l 10 0) 65535 && leb (get_or l 11 0) 65535) && leb (get_or l 12 0) 65535) && q))) c.places_fit.ensures c.change_fits.ensures
+    ∙ fits_is l c.told-l

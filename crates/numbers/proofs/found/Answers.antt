@@ -1,14 +1,11 @@
-use Rattle.std.proofs.Common.{rules, ◌≡◌, ℕ, ◌+◌, ◌-◌, ◌*◌, ◌<◌, ◌≤◌, length, ◌/◌, ◌%◌, Bool, true, false, nat_eq, nat_lt, List, [], ◌∷◌, ◌++◌, slice_index_or, slice_set, bit_and, bit_or, Fits, w8, w32, w64, Bor, MutBor}
-use Rattle.wire.specs.Numbers.{code, said}
-use Rattle.numbers.specs.Record.{top_byte, top_id, low_bits, change_fits, record_fits, record_or, places_made, joining_made, chain_of, change_of, Stands, kind_of, numbers_of, Settles, places_of}
-use Rattle.numbers.specs.Fields.{fields_fit, head_from, FieldsStand, head_or, fields_of, fields_given}
-use Rattle.numbers.specs.Answers.{outcome_code, found_code}
+-- `numbers::found`: the number of the slot.
+use Rattle.std.proofs.Common.{sym, ap, ◌∙◌, lt-ltb, le-ltb}
+use Rattle.wire.proofs.Numbers.{pick_true, pick_false}
+use Rattle.numbers.specs.Answers.{found_code}
 use Rattle.numbers.proofs.found.Goals as goal
 
--- src/lib.rt:255:1
 pub returns-in-Some : goal.returns-in-Some
-returns-in-Some c = ?
+returns-in-Some c = sym (ap found_code c.in-Some.is ∙ pick_true _ _ _ (lt-ltb _ _ c.if-i.true))
 
--- src/lib.rt:255:1
 pub returns-in_default : goal.returns-in_default
-returns-in_default c = ?
+returns-in_default c = sym (ap found_code c.in-Some.is ∙ pick_false _ _ _ (le-ltb _ _ c.if-i.false))

@@ -1,14 +1,10 @@
-use Rattle.std.proofs.Common.{rules, ◌≡◌, ℕ, ◌+◌, ◌-◌, ◌*◌, ◌<◌, ◌≤◌, length, ◌/◌, ◌%◌, Bool, true, false, nat_eq, nat_lt, List, [], ◌∷◌, ◌++◌, slice_index_or, slice_set, bit_and, bit_or, Fits, w8, w32, w64, Bor, MutBor}
-use Rattle.wire.specs.Numbers.{code, said}
-use Rattle.numbers.specs.Record.{top_byte, top_id, low_bits, change_fits, record_fits, record_or, places_made, joining_made, chain_of, change_of, Stands, kind_of, numbers_of, Settles, places_of}
-use Rattle.numbers.specs.Fields.{fields_fit, head_from, FieldsStand, head_or, fields_of, fields_given}
-use Rattle.numbers.specs.Answers.{outcome_code, found_code}
+-- `numbers::give_fields`: all of the fields where there is room for just them, or none.
+use Rattle.std.proofs.Common.{sym, rules}
+use Rattle.numbers.proofs.Fields.{given, not_given}
 use Rattle.numbers.proofs.give_fields.Goals as goal
 
--- src/lib.rt:235:1
-pub returns-in-Ok : goal.returns-in-Ok
-returns-in-Ok c = ?
+pub returns-then-f-eq-FIELDS_SIZE : goal.returns-then-f-eq-FIELDS_SIZE
+returns-then-f-eq-FIELDS_SIZE c = let e = given c.args.f.now c.args.h c.if-f-eq-FIELDS_SIZE.true in search rules
 
--- src/lib.rt:235:1
-pub returns-in_default : goal.returns-in_default
-returns-in_default c = ?
+pub returns-else-f-eq-FIELDS_SIZE : goal.returns-else-f-eq-FIELDS_SIZE
+returns-else-f-eq-FIELDS_SIZE c = sym (not_given _ _ c.if-f-eq-FIELDS_SIZE.false)

@@ -1,10 +1,8 @@
-use Rattle.std.proofs.Common.{rules, ◌≡◌, ℕ, ◌+◌, ◌-◌, ◌*◌, ◌<◌, ◌≤◌, length, ◌/◌, ◌%◌, Bool, true, false, nat_eq, nat_lt, List, [], ◌∷◌, ◌++◌, slice_index_or, slice_set, bit_and, bit_or, Fits, w8, w32, w64, Bor, MutBor}
-use Rattle.wire.specs.Numbers.{code, said}
-use Rattle.numbers.specs.Record.{top_byte, top_id, low_bits, change_fits, record_fits, record_or, places_made, joining_made, chain_of, change_of, Stands, kind_of, numbers_of, Settles, places_of}
-use Rattle.numbers.specs.Fields.{fields_fit, head_from, FieldsStand, head_or, fields_of, fields_given}
-use Rattle.numbers.specs.Answers.{outcome_code, found_code}
+-- `numbers::head_at`: numbers that stand for fields give them.
+use Rattle.numbers.proofs.Fields.{head_is}
 use Rattle.numbers.proofs.head_at.Goals as goal
 
--- src/lib.rt:190:1
 pub returns : goal.returns
-returns c = ?
+returns c =
+    head_is c.args.f.now c.requires c.byte.ensures c.byte-2.ensures c.id.ensures c.id-2.ensures c.id-3.ensures
+    c.id-4.ensures c.new.ensures c.byte-3.ensures

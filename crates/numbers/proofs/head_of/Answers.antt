@@ -1,18 +1,18 @@
-use Rattle.std.proofs.Common.{rules, ◌≡◌, ℕ, ◌+◌, ◌-◌, ◌*◌, ◌<◌, ◌≤◌, length, ◌/◌, ◌%◌, Bool, true, false, nat_eq, nat_lt, List, [], ◌∷◌, ◌++◌, slice_index_or, slice_set, bit_and, bit_or, Fits, w8, w32, w64, Bor, MutBor}
-use Rattle.wire.specs.Numbers.{code, said}
-use Rattle.numbers.specs.Record.{top_byte, top_id, low_bits, change_fits, record_fits, record_or, places_made, joining_made, chain_of, change_of, Stands, kind_of, numbers_of, Settles, places_of}
-use Rattle.numbers.specs.Fields.{fields_fit, head_from, FieldsStand, head_or, fields_of, fields_given}
-use Rattle.numbers.specs.Answers.{outcome_code, found_code}
+-- `numbers::head_of`: the fields that the numbers stand for, or those of no packet.
+use Rattle.std.proofs.Common.{sym, ap, ◌∙◌}
+use Rattle.numbers.specs.Fields.{head_or}
+use Rattle.numbers.proofs.Fields.{reflect_fields, or_head, or_none}
 use Rattle.numbers.proofs.head_of.Goals as goal
 
--- src/lib.rt:212:35
-pub head_at-requires : goal.head_at-requires
-head_at-requires c = ?
-
--- src/lib.rt:208:1
-pub returns-in-Ok : goal.returns-in-Ok
-returns-in-Ok c = ?
-
--- src/lib.rt:208:1
 pub returns-in_default : goal.returns-in_default
-returns-in_default c = ?
+returns-in_default c = sym (or_none _ (λ s. c.in_default.ensures.1 s.size))
+
+pub head_at-requires : goal.head_at-requires
+head_at-requires c = (reflect_fields _).0 (sym c.fields_fit.ensures ∙ c.if-fields_fit.true)
+
+pub returns-then-fields_fit : goal.returns-then-fields_fit
+returns-then-fields_fit c =
+    c.head_at.ensures ∙ sym (or_head _ ((reflect_fields _).0 (sym c.fields_fit.ensures ∙ c.if-fields_fit.true))) ∙ ap head_or c.in-Ok.ensures.1.same
+
+pub returns-else-fields_fit : goal.returns-else-fields_fit
+returns-else-fields_fit c = sym (or_none _ ((reflect_fields _).1 (sym c.fields_fit.ensures ∙ c.if-fields_fit.false))) ∙ ap head_or c.in-Ok.ensures.1.same

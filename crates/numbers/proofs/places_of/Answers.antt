@@ -1,10 +1,11 @@
-use Rattle.std.proofs.Common.{rules, ◌≡◌, ℕ, ◌+◌, ◌-◌, ◌*◌, ◌<◌, ◌≤◌, length, ◌/◌, ◌%◌, Bool, true, false, nat_eq, nat_lt, List, [], ◌∷◌, ◌++◌, slice_index_or, slice_set, bit_and, bit_or, Fits, w8, w32, w64, Bor, MutBor}
-use Rattle.wire.specs.Numbers.{code, said}
-use Rattle.numbers.specs.Record.{top_byte, top_id, low_bits, change_fits, record_fits, record_or, places_made, joining_made, chain_of, change_of, Stands, kind_of, numbers_of, Settles, places_of}
-use Rattle.numbers.specs.Fields.{fields_fit, head_from, FieldsStand, head_or, fields_of, fields_given}
-use Rattle.numbers.specs.Answers.{outcome_code, found_code}
+-- `numbers::places_of`: the eight places, one by one.
+use Rattle.std.proofs.Common.{◌∙◌, get_or}
+use Rattle.chain.proofs.Places.{eight_are}
+use Rattle.numbers.proofs.Record.{places_of_lem}
 use Rattle.numbers.proofs.places_of.Goals as goal
 
--- src/lib.rt:174:1
 pub returns : goal.returns
-returns c = ?
+returns c =
+    let ids = c.args.ids.now in
+    eight_are (λ i. get_or ids i 0) c.id_or.ensures c.id_or-2.ensures c.id_or-3.ensures c.id_or-4.ensures c.id_or-5.ensures c.id_or-6.ensures c.id_or-7.ensures c.id_or-8.ensures
+    ∙ places_of_lem ids

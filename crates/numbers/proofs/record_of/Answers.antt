@@ -1,18 +1,18 @@
-use Rattle.std.proofs.Common.{rules, ◌≡◌, ℕ, ◌+◌, ◌-◌, ◌*◌, ◌<◌, ◌≤◌, length, ◌/◌, ◌%◌, Bool, true, false, nat_eq, nat_lt, List, [], ◌∷◌, ◌++◌, slice_index_or, slice_set, bit_and, bit_or, Fits, w8, w32, w64, Bor, MutBor}
-use Rattle.wire.specs.Numbers.{code, said}
-use Rattle.numbers.specs.Record.{top_byte, top_id, low_bits, change_fits, record_fits, record_or, places_made, joining_made, chain_of, change_of, Stands, kind_of, numbers_of, Settles, places_of}
-use Rattle.numbers.specs.Fields.{fields_fit, head_from, FieldsStand, head_or, fields_of, fields_given}
-use Rattle.numbers.specs.Answers.{outcome_code, found_code}
+-- `numbers::record_of`: the record that the numbers stand for, or the one that breaks the rules.
+use Rattle.std.proofs.Common.{sym, ap, ◌∙◌}
+use Rattle.numbers.specs.Record.{record_or}
+use Rattle.numbers.proofs.Record.{reflect_stands, or_record, or_none}
 use Rattle.numbers.proofs.record_of.Goals as goal
 
--- src/lib.rt:117:29
-pub chain_at-requires : goal.chain_at-requires
-chain_at-requires c = ?
-
--- src/lib.rt:113:1
-pub returns-in-Ok : goal.returns-in-Ok
-returns-in-Ok c = ?
-
--- src/lib.rt:113:1
 pub returns-in_default : goal.returns-in_default
-returns-in_default c = ?
+returns-in_default c = sym (or_none _ (λ s. c.in_default.ensures.1 s.size))
+
+pub chain_at-requires : goal.chain_at-requires
+chain_at-requires c = (reflect_stands _).0 (sym c.fits.ensures ∙ c.if-fits.true)
+
+pub returns-then-fits : goal.returns-then-fits
+returns-then-fits c =
+    c.chain_at.ensures ∙ sym (or_record _ ((reflect_stands _).0 (sym c.fits.ensures ∙ c.if-fits.true))) ∙ ap record_or c.in-Ok.ensures.1.same
+
+pub returns-else-fits : goal.returns-else-fits
+returns-else-fits c = sym (or_none _ ((reflect_stands _).1 (sym c.fits.ensures ∙ c.if-fits.false))) ∙ ap record_or c.in-Ok.ensures.1.same

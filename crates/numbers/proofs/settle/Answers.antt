@@ -1,10 +1,10 @@
-use Rattle.std.proofs.Common.{rules, ◌≡◌, ℕ, ◌+◌, ◌-◌, ◌*◌, ◌<◌, ◌≤◌, length, ◌/◌, ◌%◌, Bool, true, false, nat_eq, nat_lt, List, [], ◌∷◌, ◌++◌, slice_index_or, slice_set, bit_and, bit_or, Fits, w8, w32, w64, Bor, MutBor}
-use Rattle.wire.specs.Numbers.{code, said}
-use Rattle.numbers.specs.Record.{top_byte, top_id, low_bits, change_fits, record_fits, record_or, places_made, joining_made, chain_of, change_of, Stands, kind_of, numbers_of, Settles, places_of}
-use Rattle.numbers.specs.Fields.{fields_fit, head_from, FieldsStand, head_or, fields_of, fields_given}
-use Rattle.numbers.specs.Answers.{outcome_code, found_code}
+-- `numbers::settle`: a step that is done gives the numbers of its record, and any other leaves them.
+use Rattle.std.proofs.Common.{◌∙◌}
+use Rattle.numbers.proofs.Record.{settled, unsettled}
 use Rattle.numbers.proofs.settle.Goals as goal
 
--- src/lib.rt:162:1
-pub returns : goal.returns
-returns c = ?
+pub returns-then-number-l : goal.returns-then-number-l
+returns-then-number-l c = settled c.number-number.ensures c.if-number-l.true (c.copy_from_slice.ensures.after ∙ c.numbers_of.ensures)
+
+pub returns-else-number-l : goal.returns-else-number-l
+returns-else-number-l c = unsettled c.number-number.ensures c.if-number-l.false
