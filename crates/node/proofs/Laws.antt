@@ -5,19 +5,21 @@ use mathlib.Core.Bool.{Bool, true, false, ◌&&◌, ◌||◌, not, and-false}
 use mathlib.Core.List.{List, []}
 use native.Mathlib.Omega.{arith}
 use native.Mathlib.Decide.{dec_lt}
-use lib.ListN.{length, get_or, get_or-eq_default}
+use lib.ListN.{length, get_or, get_or-eq_default, length-take, length-drop}
 use lib.Dec.{eqb}
 use borrow.Author.Tests.{lt-ltb, le-ltb, eq-eqb, ne_eqb}
 use Rattle.be.specs.Be.{Bytes}
-use Rattle.wire.specs.Numbers.{Out, refuse, ok, number_of, left, guard, pick, broken, small_outlet, malformed, misaddressed, below_fence, sessionless, key_missing, session_over, no_number_left, not_newer}
-use Rattle.wire.specs.Version.{less_stamp, less_session, same_session, last_sequence, next_sequence, newer, session, sequence, zero_version}
-use Rattle.wire.specs.Packet.{Packet, packet, packet_of, key_of, value_of, Formed, sent_in, outlet_size, op_read, op_write, value_size, query, answer_value, answer_no_value, answer_no_key}
+use Rattle.wire.specs.Numbers.{Out, refuse, ok, number_of, left, guard, pick, broken, small_outlet, malformed, misaddressed, below_fence, sessionless}
+use Rattle.wire.specs.Version.{less_stamp, less_session, same_session, last_sequence, next_sequence, newer, session, sequence}
+use Rattle.wire.specs.Packet.{Packet, packet, packet_of, key_of, value_of, well_formed, Formed, Fit, sent_in, outlet_size, op_read, op_write, value_size, query}
 use Rattle.wire.specs.declared.Head.{Head}
 use Rattle.wire.specs.declared.Version.{Version}
-use Rattle.wire.proofs.Numbers.{pass_guard, stop_guard, reflects_yes, reflects_no, reflect_not, pick_true, pick_false}
-use Rattle.wire.proofs.Packet.{reflect_formed}
-use Rattle.store.specs.Table.{Slot, Table, slot, table_of, table_ok, TableRules, count_of, find, slots, whole_slots, free_slot, valued, deleted, Write, set_row, write_bytes}
-use Rattle.std.specs.Prelude.{Option, Some, None}
+use Rattle.wire.specs.declared.Refusal.TheVariants.{KeyMissing, SessionOver, NoNumberLeft, NotNewer}
+use Rattle.wire.proofs.Numbers.{pass_guard, stop_guard, reflects_yes, reflects_no, reflect_not, reflect_eqb, pick_case, pick_false}
+use Rattle.wire.proofs.Packet.{reflect_formed, ReadView}
+use Rattle.wire.proofs.RoundTrip.{fit_packet}
+use Rattle.store.specs.Table.{Slot, Table, slot, slot_of, row_size, table_of, table_ok, TableRules, count_of, find, slots, whole_slots, free_slot, valued, deleted, set_row, write_bytes}
+use Rattle.std.specs.Prelude.{Option, Some, None, Ok, Err}
 use Rattle.store.proofs.Rules.{reflect_table, length_table, whole_table, slots_table}
 use Rattle.store.proofs.Slot.{SlotFits}
 use Rattle.store.proofs.Find.{find_at}
@@ -30,68 +32,73 @@ use Rattle.steps.proofs.Node.{call_step}
 use Rattle.steps.proofs.NodeView.{node_view}
 use Rattle.steps.proofs.NodeSound.{Sound, sound_packet, sound_table}
 use Rattle.steps.proofs.NodeSends.{Writes, none, one, Sends as SoundSends, node_sends}
-use Rattle.node.specs.Ways.{replied, carried, kept, sent_by, outcome, asked, behind, Settles, HasState, HasVersion, Comes}
+use Rattle.node.specs.Ways.{answer_of, version_of, carried, sent_by, asked, behind, Settles, HasState, HasVersion, Comes}
+use Rattle.node.specs.Queries.{table_asked, asked_by}
+use Rattle.node.specs.declared.Query.{Query}
 use Rattle.node.specs.declared.Reply.{Reply}
-use Rattle.node.specs.declared.Way.{Way}
-use Rattle.node.specs.declared.Way.TheVariants.{Refused, Sends}
+use Rattle.node.specs.declared.Reply.TheVariants.{Taken, Value, NoValue, NoKey}
 
 -- ---- a key that stands in slot i
 
 module _ (h : Head) (i : ℕ) (v : Version) where
   -- a read
   module _ (state : ℕ) (r : h.op ≡ op_read) where
-    pub value_way : state ≡ valued → Settles h (Some i) (Sends (replied answer_value v i)) (λ t. HasState i state t × HasVersion i v t)
-    unfolding guard pick at_slot answered sent_by kept carried
+    pub value_way : state ≡ valued → Settles h (Some i) (Ok (Value v i)) (λ t. HasState i state t × HasVersion i v t)
+    unfolding guard pick at_slot answered sent_by
     value_way e t k x is = rw (eq-eqb h.op op_read r, is.0, eq-eqb state valued e, is.1)
 
-    pub no_value_way : (state ≡ valued → ⊥) → Settles h (Some i) (Sends (replied answer_no_value v i)) (λ t. HasState i state t × HasVersion i v t)
-    unfolding guard pick at_slot answered sent_by kept carried
+    pub no_value_way : (state ≡ valued → ⊥) → Settles h (Some i) (Ok (NoValue v)) (λ t. HasState i state t × HasVersion i v t)
+    unfolding guard pick at_slot answered sent_by
     no_value_way e t k x is = rw (eq-eqb h.op op_read r, is.0, ne_eqb state valued e, is.1)
 
   module _ (a : h.op ≡ op_read → ⊥) where
     -- a write or delete with a number
     module _ (n : h.version.sequence.0 ≡ 0 → ⊥) where
-      pub older_way : newer h.version v ≡ false → Settles h (Some i) (Refused not_newer) (HasVersion i v)
+      pub older_way : newer h.version v ≡ false → Settles h (Some i) (Err NotNewer) (HasVersion i v)
       unfolding guard
       older_way e t k x is = rw (is, ne_eqb h.op op_read a, ne_eqb h.version.sequence.0 0 n, e)
 
-      pub newer_way : newer h.version v ≡ true → Settles h (Some i) (Sends (replied query h.version i)) (HasVersion i v)
-      unfolding guard pick at_slot version_for taken sent_by kept carried
+      pub newer_way : newer h.version v ≡ true → Settles h (Some i) (Ok (Taken h.version i)) (HasVersion i v)
+      unfolding guard pick at_slot version_for taken sent_by
       newer_way e t k x is = rw (is, ne_eqb h.op op_read a, ne_eqb h.version.sequence.0 0 n, e)
 
     -- one without
     module _ (u : h.version.sequence.0 ≡ 0) where
-      pub over_way : less_session h.version.session v.session ≡ true → Settles h (Some i) (Refused session_over) (HasVersion i v)
+      pub over_way : less_session h.version.session v.session ≡ true → Settles h (Some i) (Err SessionOver) (HasVersion i v)
       unfolding guard
       over_way e t k x is = rw (is, ne_eqb h.op op_read a, eq-eqb h.version.sequence.0 0 u, e)
 
       module _ (under : less_session h.version.session v.session ≡ false) where
-        pub last_way : same_session h.version.session v.session ≡ true → last_sequence v.sequence ≡ true → Settles h (Some i) (Refused no_number_left) (HasVersion i v)
+        pub last_way : same_session h.version.session v.session ≡ true → last_sequence v.sequence ≡ true → Settles h (Some i) (Err NoNumberLeft) (HasVersion i v)
         unfolding guard
         last_way e f t k x is = rw (is, ne_eqb h.op op_read a, eq-eqb h.version.sequence.0 0 u, under, e, f)
 
         pub next_way : same_session h.version.session v.session ≡ true → last_sequence v.sequence ≡ false
-            → Settles h (Some i) (Sends (replied query (record { session = h.version.session; sequence = next_sequence v.sequence }) i)) (HasVersion i v)
-        unfolding guard pick at_slot version_for given taken sent_by kept carried
+            → Settles h (Some i) (Ok (Taken (record { session = h.version.session; sequence = next_sequence v.sequence }) i)) (HasVersion i v)
+        unfolding guard pick at_slot version_for given taken sent_by
         next_way e f t k x is = rw (is, ne_eqb h.op op_read a, eq-eqb h.version.sequence.0 0 u, under, e, f)
 
         pub first_way : same_session h.version.session v.session ≡ false
-            → Settles h (Some i) (Sends (replied query (record { session = h.version.session; sequence = sequence 1 }) i)) (HasVersion i v)
-        unfolding guard pick at_slot version_for given taken sent_by kept carried
+            → Settles h (Some i) (Ok (Taken (record { session = h.version.session; sequence = sequence 1 }) i)) (HasVersion i v)
+        unfolding guard pick at_slot version_for given taken sent_by
         first_way e t k x is = rw (is, ne_eqb h.op op_read a, eq-eqb h.version.sequence.0 0 u, under, e)
 
 -- ---- a key that is missing
 
 module _ (h : Head) where
-  pub missing_way : (not (eqb h.op op_read) && not (eqb h.version.sequence.0 0)) ≡ true → Settles h None (Refused key_missing) (λ _. Unit {0})
+  pub missing_way : (not (eqb h.op op_read) && not (eqb h.version.sequence.0 0)) ≡ true → Settles h None (Err KeyMissing) (λ _. Unit {0})
   unfolding guard
   missing_way e t k x _ = rw e
 
-  pub absent_way : (not (eqb h.op op_read) && not (eqb h.version.sequence.0 0)) ≡ false → Settles h None (Sends (replied answer_no_key zero_version 0)) (λ _. Unit {0})
-  unfolding guard pick absent sent_by kept carried
+  pub absent_way : (not (eqb h.op op_read) && not (eqb h.version.sequence.0 0)) ≡ false → Settles h None (Ok NoKey) (λ _. Unit {0})
+  unfolding guard pick absent sent_by
   absent_way e t k x _ = rw (e, and-false)
 
 -- ---- looking for the key
+
+-- the rules of a table that the check passed
+pub rules_of : {t : List ℕ} → table_ok t ≡ true → TableRules t
+rules_of {t} e = (reflect_table t).0 e
 
 module _ {t : List ℕ} (g : TableRules t) where
   -- what the search found
@@ -120,6 +127,11 @@ module _ {t : List ℕ} (g : TableRules t) where
       go : Dec (i < count_of t) → value_part (row_part t i) ≡ (get_or (table_of t).slots i free_slot).value
       go (yes h) = value_table t g i h
       go (no h) = ap value_part (no_row (omega arith)) ∙ ap (λ (s : Slot). s.value) (sym (get_or-eq_default (table_of t).slots free_slot (omega (arith, length_table t))))
+
+-- the value of a row has no more than there is room for
+part_fits : (r : List ℕ) → length (value_part r) ≤ value_size
+unfolding value_part slot_of
+part_fits r = pick_case (λ (x : List ℕ). length x ≤ value_size) _ _ _ (λ e. let n = (reflect_eqb (length r) row_size).0 e in simp (length-take, length-drop) (omega arith)) (λ e. omega arith)
 
 -- ---- rows 4, 7 and 8
 
@@ -151,60 +163,72 @@ module _ (t : Table) (p : Packet) where
 
 -- ---- a reply
 
-module _ {t p : List ℕ} {h : Head} {r : Reply} (c : Comes t p h (Sends r)) (bt : Bytes t) (bp : Bytes p) where
-  -- it is a packet, and what is stored keeps the rules
-  sound : SoundSends (table_of t) (sent_by (table_of t) (asked h p) r)
-  unfolding packet_of
-  sound =
-      node_sends (table_of t) (asked h p) (sent_by (table_of t) (asked h p) r) (sound_table t bt c.rules)
-      (subst (λ (k : Head). Sound (asked k p)) (sym c.fields) (sound_packet p bp c.formed)) c.step
+module _ (q : Query) where
+  -- what a query comes to
+  pub comes_of : {r : Reply} → node_step (table_asked q) (asked_by q) ≡ ok (sent_by (table_asked q) (asked_by q) r) → Comes q.table.now q.packet.now q.head r
+  comes_of e = record { rules = rules_of q.rules; formed = (reflect_formed q.packet.now).0 q.formed; fields = q.fields; step = e }
 
-  pub carried_fits : length (carried (table_of t) (value_of p) r) ≤ value_size
-  unfolding sent_by reply
-  carried_fits = sound.packet.fit.small
+  read_fit : Fit (packet_of q.packet.now)
+  read_fit = fit_packet q.packet.now ((reflect_formed q.packet.now).0 q.formed)
+
+  -- no reply carries more than a packet has room for
+  pub carried_fits : (r : Reply) → length (carried (table_asked q) (asked_by q).value r) ≤ value_size
+  unfolding packet_of
+  carried_fits (Taken v i) = omega (arith, read_fit.value, read_fit.small)
+  carried_fits (Value v i) = subst (λ (x : List ℕ). length x ≤ value_size) (any_value (rules_of q.rules) i) (part_fits _)
+  carried_fits (NoValue v) = omega arith
+  carried_fits NoKey = omega arith
 
   -- own id is the one that the packet was sent to
-  own_id : h.to ≡ (table_of t).id
-  own_id = (node_view (table_of t) (asked h p) (sent_by (table_of t) (asked h p) r) c.step).accepted.mine
+  module _ (r : Reply) (does : node_step (table_asked q) (asked_by q) ≡ ok (sent_by (table_asked q) (asked_by q) r)) where
+    own_id : q.head.to ≡ (table_asked q).id
+    own_id = (node_view (table_asked q) (asked_by q) (sent_by (table_asked q) (asked_by q) r) does).accepted.mine
 
-  pub is_sent : (out : List ℕ) {k x out' : List ℕ} → outlet_size ≤ length out → k ≡ key_of p → x ≡ carried (table_of t) (value_of p) r
-      → out' ≡ emitted out (reply h.to (packet h k (value_of p)) r.answer r.version x) → out' ≡ sent_in out (sent_by (table_of t) (asked h p) r).packet
-  unfolding sent_by reply
-  is_sent out room ek ex e =
-      e
-      ∙ ((λ j. emitted out (reply (own_id j) (packet h (ek j) (value_of p)) r.answer r.version (ex j)))
-      ∙ emit_done out (sent_by (table_of t) (asked h p) r).packet room sound.packet.fit.key carried_fits)
-
-  -- a query that goes on
-  module _ (goes : r.answer ≡ query) where
-    writes : kept (asked h p) r ≡ set_row r.slot (stored (asked h p) r.version)
-    unfolding kept
-    writes = pick_true _ _ _ (eq-eqb r.answer query goes)
-
-    -- its slot is there, and has room for it
-    slot_fits : (r.slot < count_of t) × SlotFits (stored (asked h p) r.version)
-    unfolding sent_by
-    slot_fits = go sound.writes
-      where
-        go : Writes (table_of t) (kept (asked h p) r) → (r.slot < count_of t) × SlotFits (stored (asked h p) r.version)
-        go (none e) = absurd (let z : ◌≡◌ {A = ℕ} 0 1 = cc writes in omega arith)
-        go (one i s e l f) =
-            let same : r.slot ≡ i = cc writes in
-            let is : s ≡ stored (asked h p) r.version = cc writes in
-            (omega (arith, length_table t), subst SlotFits is f.fits)
-
-    pub is_stored : {st : ℕ} {k x t' : List ℕ} → k ≡ key_of p → st ≡ pick (eqb h.op op_write) valued deleted → x ≡ value_of p
-        → t' ≡ slot_stored t r.slot (slot k st r.version x) → t' ≡ write_bytes (sent_by (table_of t) (asked h p) r).write t
-    unfolding sent_by stored
-    is_stored ek es ex e =
+    pub is_sent : (out : List ℕ) {a : ℕ} {v : Version} {k x out' : List ℕ} → outlet_size ≤ length out → a ≡ answer_of r → v ≡ version_of r → k ≡ key_of q.packet.now
+        → x ≡ carried (table_asked q) (asked_by q).value r → out' ≡ emitted out (reply q.head.to (packet q.head k (asked_by q).value) a v x)
+        → out' ≡ sent_in out (sent_by (table_asked q) (asked_by q) r).packet
+    unfolding sent_by reply packet_of
+    is_sent out room ea ev ek ex e =
         e
-        ∙ ((λ j. slot_stored t r.slot (slot (ek j) (es j) r.version (ex j)))
-        ∙ (store_table t c.rules r.slot slot_fits.0 (stored (asked h p) r.version) slot_fits.1.key slot_fits.1.value ∙ sym (ap (λ (w : Write). write_bytes w t) writes)))
+        ∙ ((λ j. emitted out (reply (own_id j) (packet q.head (ek j) (asked_by q).value) (ea j) (ev j) (ex j)))
+        ∙ emit_done out (sent_by (table_asked q) (asked_by q) r).packet room read_fit.key (carried_fits r))
+
+-- what is taken
+module _ {t p : List ℕ} {h : Head} {v : Version} {i : ℕ} (c : Comes t p h (Taken v i)) (bt : Bytes t) (bp : Bytes p) where
+  -- what the step comes to keeps the rules
+  sound : SoundSends (table_of t) (sent_by (table_of t) (asked h p) (Taken v i))
+  unfolding packet_of
+  sound =
+      node_sends (table_of t) (asked h p) (sent_by (table_of t) (asked h p) (Taken v i)) (sound_table t bt c.rules)
+      (subst (λ (k : Head). Sound (asked k p)) (sym c.fields) (sound_packet p bp c.formed)) c.step
+
+  -- its slot is there, and has room for it
+  slot_fits : (i < count_of t) × SlotFits (stored (asked h p) v)
+  unfolding sent_by
+  slot_fits = go sound.writes
+    where
+      go : Writes (table_of t) (set_row i (stored (asked h p) v)) → (i < count_of t) × SlotFits (stored (asked h p) v)
+      go (none e) = absurd (let z : ◌≡◌ {A = ℕ} 0 1 = cc in omega arith)
+      go (one j s e l f) =
+          let same : i ≡ j = cc in
+          let is : s ≡ stored (asked h p) v = cc in
+          (omega (arith, length_table t), subst SlotFits is f.fits)
+
+  pub is_stored : {st : ℕ} {k x t' : List ℕ} → k ≡ key_of p → st ≡ pick (eqb h.op op_write) valued deleted → x ≡ value_of p
+      → t' ≡ slot_stored t i (slot k st v x) → t' ≡ write_bytes (sent_by (table_of t) (asked h p) (Taken v i)).write t
+  unfolding sent_by stored
+  is_stored ek es ex e =
+      e
+      ∙ ((λ j. slot_stored t i (slot (ek j) (es j) v (ex j)))
+      ∙ store_table t c.rules i slot_fits.0 (stored (asked h p) v) slot_fits.1.key slot_fits.1.value)
 
 -- any other reply writes nothing
-pub is_kept : (t p : List ℕ) (h : Head) (r : Reply) → (r.answer ≡ query → ⊥) → t ≡ write_bytes (sent_by (table_of t) (asked h p) r).write t
-unfolding sent_by kept
-is_kept t p h r n = sym (ap (λ (w : Write). write_bytes w t) (pick_false _ _ _ (ne_eqb r.answer query n)))
+pub is_kept : (t p : List ℕ) (h : Head) (r : Reply) → ((v : Version) (i : ℕ) → r ≡ Taken v i → ⊥) → t ≡ write_bytes (sent_by (table_of t) (asked h p) r).write t
+unfolding sent_by
+is_kept t p h (Taken v i) n = absurd (n v i refl)
+is_kept t p h (Value v i) n = refl
+is_kept t p h (NoValue v) n = refl
+is_kept t p h NoKey n = refl
 
 -- ---- what the check of the table gave
 
@@ -215,20 +239,20 @@ module _ {t : List ℕ} {b : Bool} (is : b ≡ table_ok t) where
   pub breaks_rules : b ≡ false → TableRules t → ⊥
   breaks_rules e = (reflect_table t).1 (sym is ∙ e)
 
--- ---- the promise
+-- what was read is well-formed
+pub formed_read : {p : List ℕ} {h : Head} → ReadView p h → well_formed p ≡ true
+formed_read {p} v = reflects_yes (reflect_formed p) v.formed
 
--- what the step comes to, where the case is known
-pub comes_to : {t p : List ℕ} {h : Head} {v w : Way} → Comes t p h v → v ≡ w → Comes t p h w
-comes_to {t} {p} {h} c e = subst (Comes t p h) e c
+-- ---- the promise
 
 -- row 1 does not apply
 whole : (t : List ℕ) → TableRules t → not (table_ok t) ≡ false
 whole t g = reflects_no (reflect_not (reflect_table t)) (λ n. n g)
 
--- the call comes to what the step does
-comes : {t p : List ℕ} {h : Head} {w : Way} (out : List ℕ) → Comes t p h w → outlet_size ≤ length out → node_call t p out ≡ outcome (table_of t) (asked h p) w
+-- a packet that was read: the call comes to what the step does
+comes : (t p out : List ℕ) {h : Head} → TableRules t → outlet_size ≤ length out → ReadView p h → node_call t p out ≡ node_step (table_of t) (asked h p)
 unfolding packet_of
-comes {t} {p} out c room = call_step t p out c.rules room c.formed ∙ (ap (λ (k : Head). node_step (table_of t) (asked k p)) (sym c.fields) ∙ c.step)
+comes t p out g room v = call_step t p out g room v.formed ∙ ap (λ (k : Head). node_step (table_of t) (asked k p)) (sym v.head)
 
 module _ {t p out : List ℕ} where
   -- the promise, by what the call comes to
@@ -253,14 +277,16 @@ module _ {t p out : List ℕ} where
     unfolding node_call
     gives_small h = refused small_outlet (pass_guard _ _ _ (whole t g) ∙ stop_guard _ _ _ (lt-ltb _ _ h))
 
-    pub gives_malformed : {n : ℕ} → outlet_size ≤ length out → (n ≡ malformed) × (Formed p → ⊥) → NodeGives t p out n t out
-    unfolding node_call
-    gives_malformed {n} h f =
-        refused n (pass_guard _ _ _ (whole t g) ∙ (pass_guard _ _ _ (le-ltb _ _ h) ∙ (stop_guard _ _ _ (reflects_yes (reflect_not (reflect_formed p)) f.1) ∙ ap refuse (sym f.0))))
+    module _ (room : outlet_size ≤ length out) where
+      pub gives_malformed : {n : ℕ} → (n ≡ malformed) × (Formed p → ⊥) → NodeGives t p out n t out
+      unfolding node_call
+      gives_malformed {n} f =
+          refused n (pass_guard _ _ _ (whole t g) ∙ (pass_guard _ _ _ (le-ltb _ _ room) ∙ (stop_guard _ _ _ (reflects_yes (reflect_not (reflect_formed p)) f.1) ∙ ap refuse (sym f.0))))
 
-  module _ {h : Head} {w : Way} (c : Comes t p h w) (room : outlet_size ≤ length out) where
-    pub gives_refused : (n : ℕ) → w ≡ Refused n → NodeGives t p out n t out
-    gives_refused n e = refused n (comes out c room ∙ ap (outcome (table_of t) (asked h p)) e)
+      module _ {h : Head} (v : ReadView p h) where
+        pub gives_refused : (n : ℕ) → node_step (table_of t) (asked h p) ≡ refuse n → NodeGives t p out n t out
+        gives_refused n e = refused n (comes t p out g room v ∙ e)
 
-    pub gives_sent : {t' out' : List ℕ} (r : Reply) → w ≡ Sends r → t' ≡ write_bytes (sent_by (table_of t) (asked h p) r).write t → out' ≡ sent_in out (sent_by (table_of t) (asked h p) r).packet → NodeGives t p out 0 t' out'
-    gives_sent r e a b = gives (ok (sent_by (table_of t) (asked h p) r)) (comes out c room ∙ ap (outcome (table_of t) (asked h p)) e) refl a b
+        pub gives_sent : {t' out' : List ℕ} (r : Reply) → node_step (table_of t) (asked h p) ≡ ok (sent_by (table_of t) (asked h p) r)
+            → t' ≡ write_bytes (sent_by (table_of t) (asked h p) r).write t → out' ≡ sent_in out (sent_by (table_of t) (asked h p) r).packet → NodeGives t p out 0 t' out'
+        gives_sent r e a b = gives (ok (sent_by (table_of t) (asked h p) r)) (comes t p out g room v ∙ e) refl a b

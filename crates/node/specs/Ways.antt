@@ -1,35 +1,51 @@
 -- What a node does with a packet, as the step settles it before it writes: it refuses under a number, or sends a reply.
-use Rattle.std.specs.Prelude.{ℕ, ◌≡◌, List, [], get_or, drop, eqb}
-use Rattle.wire.specs.Numbers.{Out, refuse, ok, judge, pick}
-use Rattle.wire.specs.Packet.{Packet, packet, head_of, key_of, value_of, Formed, query, answer_value}
+use Rattle.std.specs.Prelude.{ℕ, ◌≡◌, List, [], get_or, drop, Option, Result, Ok, Err}
+use Rattle.wire.specs.Numbers.{Out, refuse, ok, refusal_number, judge}
+use Rattle.wire.specs.Version.{zero_version}
+use Rattle.wire.specs.Packet.{Packet, packet, head_of, key_of, value_of, Formed, query, answer_value, answer_no_value, answer_no_key}
 use Rattle.wire.specs.declared.Head.{Head}
 use Rattle.wire.specs.declared.Version.{Version}
+use Rattle.wire.specs.declared.Refusal.{Refusal}
 use Rattle.store.specs.Table.{Table, table_of, TableRules, free_slot, Write, keep, set_row}
-use Rattle.std.specs.Prelude.{Option, Some, None}
 use Rattle.steps.specs.Node.{Sent, sent, reply, stored, node_tests, node_does, node_step}
 use Rattle.node.specs.declared.Reply.{Reply}
-use Rattle.node.specs.declared.Way.{Way}
-use Rattle.node.specs.declared.Way.TheVariants.{Refused, Sends}
-
-abbrev pub replied : ℕ → Version → ℕ → Reply
-replied answer v i = record { answer = answer; version = v; slot = i }
+use Rattle.node.specs.declared.Reply.TheVariants.{Taken, Value, NoValue, NoKey}
 
 -- ---- what each case stands for
 
+-- what is taken goes on as a query
+abbrev pub answer_of : Reply → ℕ
+answer_of (Taken v i) = query
+answer_of (Value v i) = answer_value
+answer_of (NoValue v) = answer_no_value
+answer_of NoKey = answer_no_key
+
+abbrev pub version_of : Reply → Version
+version_of (Taken v i) = v
+version_of (Value v i) = v
+version_of (NoValue v) = v
+version_of NoKey = zero_version
+
 -- a query that goes on carries the packet's value, answer 1 the slot's, and the other answers none
-unfoldable pub carried : Table → List ℕ → Reply → List ℕ
-carried t x r = pick (eqb r.answer query) x (pick (eqb r.answer answer_value) (get_or t.slots r.slot free_slot).value [])
+abbrev pub carried : Table → List ℕ → Reply → List ℕ
+carried t x (Taken v i) = x
+carried t x (Value v i) = (get_or t.slots i free_slot).value
+carried t x (NoValue v) = []
+carried t x NoKey = []
 
 -- a query that goes on is stored
-unfoldable pub kept : Packet → Reply → Write
-kept p r = pick (eqb r.answer query) (set_row r.slot (stored p r.version)) keep
+abbrev pub kept : Packet → Reply → Write
+kept p (Taken v i) = set_row i (stored p v)
+kept p (Value v i) = keep
+kept p (NoValue v) = keep
+kept p NoKey = keep
 
 unfoldable pub sent_by : Table → Packet → Reply → Sent
-sent_by t p r = sent (kept p r) (reply t.id p r.answer r.version (carried t p.value r))
+sent_by t p r = sent (kept p r) (reply t.id p (answer_of r) (version_of r) (carried t p.value r))
 
-abbrev pub outcome : Table → Packet → Way → Out Sent
-outcome t p (Refused n) = refuse n
-outcome t p (Sends r) = ok (sent_by t p r)
+abbrev pub outcome : Table → Packet → Result Reply Refusal → Out Sent
+outcome t p (Err n) = refuse (refusal_number n)
+outcome t p (Ok r) = ok (sent_by t p r)
 
 -- ---- how it is settled
 
@@ -42,7 +58,7 @@ abbrev pub behind : Table → Packet → Option ℕ → Out Sent
 behind t p f = judge (drop 3 (node_tests t p f)) (ok (node_does t p f))
 
 -- for every table that P holds of, every key and every value, where the key was found so
-abbrev pub Settles : Head → Option ℕ → Way → (Table → Type 0) → Type 0
+abbrev pub Settles : Head → Option ℕ → Result Reply Refusal → (Table → Type 0) → Type 0
 Settles h f w P = (t : Table) (k x : List ℕ) → P t → behind t (packet h k x) f ≡ outcome t (packet h k x) w
 
 -- of slot i
@@ -53,8 +69,8 @@ abbrev pub HasVersion : ℕ → Version → Table → Type 0
 HasVersion i v t = (get_or t.slots i free_slot).version ≡ v
 
 -- what the step comes to, on a table and a packet as they should be
-pub record Comes (t p : List ℕ) (h : Head) (w : Way) : Type 0 where
+pub record Comes (t p : List ℕ) (h : Head) (r : Reply) : Type 0 where
   pub rules : TableRules t
   pub formed : Formed p
   pub fields : h ≡ head_of p
-  pub step : node_step (table_of t) (asked h p) ≡ outcome (table_of t) (asked h p) w
+  pub step : node_step (table_of t) (asked h p) ≡ ok (sent_by (table_of t) (asked h p) r)

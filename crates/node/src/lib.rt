@@ -1,227 +1,226 @@
 // The node step: what a node does with a packet is settled first, and then one packet is sent and one slot written at most.
 #![tactic(auto)]
 
-ghost use Rattle.std.specs.Prelude.{◌≡◌, ◌≤◌, length, eqb};
-ghost use Rattle.wire.specs.Numbers.{pick};
-ghost use Rattle.wire.specs.Packet.{key_of, value_of, sent_in, outlet_size, op_read, op_write};
-ghost use Rattle.store.specs.Table.{table_of, TableRules, find, valued, deleted, write_bytes};
-ghost use Rattle.store.specs.declared.Found.TheVariants.{At, Nothing};
+ghost use Rattle.std.specs.Prelude.{◌≡◌, ◌≤◌, length, eqb, true};
+ghost use Rattle.wire.specs.Numbers.{ok, pick, code};
+ghost use Rattle.wire.specs.Packet.{head_of, key_of, value_of, well_formed, sent_in, outlet_size, op_read, op_write};
+ghost use Rattle.store.specs.Table.{table_of, table_ok, find, valued, deleted, write_bytes};
 ghost use Rattle.steps.specs.Node.{node_step, NodeGives};
-ghost use Rattle.node.specs.Ways.{replied, carried, sent_by, outcome, asked, behind, Settles, HasState, HasVersion, Comes};
-ghost use Rattle.node.specs.declared.Way.TheVariants.{Sends};
+ghost use Rattle.node.specs.Ways.{answer_of, version_of, carried, sent_by, outcome, asked, behind, Settles, HasState, HasVersion, Comes};
 
-use store::Found;
-use wire::{Head, Reading, Sequence, Session, Version};
+use store::State;
+use wire::{Answer, Head, Kind, Op, Refusal, Sequence, Session, Version};
 
-// What is sent: answer and version. A query goes on and is stored in the slot; answer 1 shows the slot's value.
+// What is sent. A write or delete that is taken goes on under its version, and is stored in its slot; answer 1 shows the slot's value.
 #[derive(Clone, Copy)]
-struct Reply {
-    answer: u8,
-    version: Version,
-    slot: usize,
+enum Reply {
+    Taken(Version, usize),
+    Value(Version, usize),
+    NoValue(Version),
+    NoKey,
 }
 
-#[derive(Clone, Copy)]
-enum Way {
-    Refused(u8),
-    Sends(Reply),
-}
+impl Reply {
+    // What is taken goes on as a query.
+    fn answer(self) -> u8
+        ensures { result ≡ answer_of self }
+    {
+        match self {
+            Reply::Taken(_, _) => Answer::Query as u8,
+            Reply::Value(_, _) => Answer::Value as u8,
+            Reply::NoValue(_) => Answer::NoValue as u8,
+            Reply::NoKey => Answer::NoKey as u8,
+        }
+    }
 
-fn sends(answer: u8, version: Version, slot: usize) -> Way
-    ensures { result ≡ Sends (replied answer version slot) }
-{
-    Way::Sends(Reply {
-        answer: answer,
-        version: version,
-        slot: slot,
-    })
+    fn version(self) -> Version
+        ensures { result ≡ version_of self }
+    {
+        match self {
+            Reply::Taken(v, _) | Reply::Value(v, _) | Reply::NoValue(v) => v,
+            Reply::NoKey => Version::new(0, 0),
+        }
+    }
 }
 
 // Unnumbered: the node is head, and gives the number after the stored one.
-fn number(h: Head, i: usize, stored: Version) -> Way
+fn number(h: Head, i: usize, stored: Version) -> Result<Reply, Refusal>
     requires { (h.op ≡ op_read → ⊥) × (h.version.sequence.0 ≡ 0) }
-    ensures { Settles h (At i) result (HasVersion i stored) }
+    ensures { Settles h (Some i) result (HasVersion i stored) }
 {
-    let s = h.version.session;
-    if s.less(stored.session) {
-        return Way::Refused(wire::SESSION_OVER);
+    let session = h.version.session;
+    if session < stored.session {
+        return Err(Refusal::SessionOver);
     }
-    if s.same(stored.session) {
-        if stored.sequence.last() {
-            return Way::Refused(wire::NO_NUMBER_LEFT);
-        }
-        let next = Version {
-            session: s,
-            sequence: stored.sequence.next(),
+    if session != stored.session {
+        let first = Version {
+            sequence: Sequence(1),
+            ..h.version
         };
-        return sends(wire::QUERY, next, i);
+        return Ok(Reply::Taken(first, i));
     }
-    let first = Version {
-        session: s,
-        sequence: Sequence(1),
+    if stored.sequence.last() {
+        return Err(Refusal::NoNumberLeft);
+    }
+    let next = Version {
+        sequence: stored.sequence.next(),
+        ..h.version
     };
-    sends(wire::QUERY, first, i)
+    Ok(Reply::Taken(next, i))
 }
 
 // A write or delete: numbered, it is taken if it is strictly newer.
-fn alter(h: Head, i: usize, stored: Version) -> Way
+fn alter(h: Head, i: usize, stored: Version) -> Result<Reply, Refusal>
     requires { h.op ≡ op_read → ⊥ }
-    ensures { Settles h (At i) result (HasVersion i stored) }
+    ensures { Settles h (Some i) result (HasVersion i stored) }
 {
-    if h.version.sequence.same(Sequence(0)) {
+    if h.version.sequence == Sequence(0) {
         return number(h, i, stored);
     }
     if h.version.newer(stored) {
-        return sends(wire::QUERY, h.version, i);
+        return Ok(Reply::Taken(h.version, i));
     }
-    Way::Refused(wire::NOT_NEWER)
+    Err(Refusal::NotNewer)
 }
 
 // The key stands in slot i: a read answers from it.
-fn at_slot(h: Head, i: usize, state: u8, stored: Version) -> Way
-    ensures { Settles h (At i) result (λ t. HasState i state t × HasVersion i stored t) }
+fn at_slot(h: Head, i: usize, state: u8, stored: Version) -> Result<Reply, Refusal>
+    ensures { Settles h (Some i) result (λ t. HasState i state t × HasVersion i stored t) }
 {
-    if h.op != wire::OP_READ {
+    if h.op != Op::Read as u8 {
         return alter(h, i, stored);
     }
-    if state == store::VALUED {
-        return sends(wire::ANSWER_VALUE, stored, i);
+    if state == State::Valued as u8 {
+        return Ok(Reply::Value(stored, i));
     }
-    sends(wire::ANSWER_NO_VALUE, stored, i)
+    Ok(Reply::NoValue(stored))
 }
 
 // The key is missing, which is told to a read and to an unnumbered write or delete.
-fn at_none(h: Head) -> Way
-    ensures { Settles h Nothing result (λ _. Unit {0}) }
+fn at_none(h: Head) -> Result<Reply, Refusal>
+    ensures { Settles h None result (λ _. Unit {0}) }
 {
-    if (h.op != wire::OP_READ) & !h.version.sequence.same(Sequence(0)) {
-        return Way::Refused(wire::KEY_MISSING);
+    if (h.op != Op::Read as u8) & (h.version.sequence != Sequence(0)) {
+        return Err(Refusal::KeyMissing);
     }
-    sends(wire::ANSWER_NO_KEY, Version::new(0, 0), 0)
+    Ok(Reply::NoKey)
 }
 
-fn look(table: &[u8], packet: &[u8], h: Head) -> Way
-    requires { TableRules table.now }
-    ensures { behind (table_of table.now) (asked h packet.now) (find (key_of packet.now) (table_of table.now).slots) ≡ outcome (table_of table.now) (asked h packet.now) result }
-{
-    match table::find(table, packet::key_of(packet)) {
-        Found::At(i) => {
-            let row = table::row(table, i);
-            at_slot(h, i, table::state(row), table::version(row))
+// A packet as it was read, and the table that is asked: a table that keeps the rules.
+#[derive(Clone, Copy)]
+struct Query<'a> {
+    table: &'a [u8],
+    packet: &'a [u8],
+    head: Head,
+    ghost rules: { table_ok table.now ≡ true },
+    ghost formed: { well_formed packet.now ≡ true },
+    ghost fields: { head ≡ head_of packet.now },
+}
+
+impl<'a> Query<'a> {
+    ghost use Rattle.node.specs.Queries.{table_asked, asked_by};
+
+    fn look(&self) -> Result<Reply, Refusal>
+        ensures { behind (table_asked self.now) (asked_by self.now) (find (asked_by self.now).key (table_asked self.now).slots) ≡ outcome (table_asked self.now) (asked_by self.now) result }
+    {
+        let Some(i) = table::find(self.table, packet::key_of(self.packet)) else {
+            return at_none(self.head);
+        };
+        let row = table::row(self.table, i);
+        at_slot(self.head, i, table::state(row), table::version(row))
+    }
+
+    fn ask(&self) -> Result<Reply, Refusal>
+        ensures { node_step (table_asked self.now) (asked_by self.now) ≡ outcome (table_asked self.now) (asked_by self.now) result }
+    {
+        let h = self.head;
+        if (h.to != table::id(self.table)) | ((h.from != 0) | (h.answer != Answer::Query as u8)) {
+            return Err(Refusal::Misaddressed);
         }
-        Found::Nothing => at_none(h),
+        if h.stamp < table::fence(self.table) {
+            return Err(Refusal::BelowFence);
+        }
+        if (h.op != Op::Read as u8) & (h.version.session == Session(0)) {
+            return Err(Refusal::Sessionless);
+        }
+        self.look()
     }
-}
 
-fn ask(table: &[u8], packet: &[u8], h: Head) -> Way
-    requires { TableRules table.now }
-    ensures { node_step (table_of table.now) (asked h packet.now) ≡ outcome (table_of table.now) (asked h packet.now) result }
-{
-    if (h.to != table::id(table)) | ((h.from != 0) | (h.answer != wire::QUERY)) {
-        return Way::Refused(wire::MISADDRESSED);
+    // The value that a reply carries: a part of the packet, or of the slot.
+    fn value_in(&self, r: Reply) -> &'a [u8]
+        ensures { result.now ≡ carried (table_asked self.now) (asked_by self.now).value r }
+    {
+        match r {
+            Reply::Taken(_, _) => packet::value_of(self.packet),
+            Reply::Value(_, i) => table::value(table::row(self.table, i)),
+            Reply::NoValue(_) | Reply::NoKey => &self.packet[..0],
+        }
     }
-    if h.stamp.less(table::fence(table)) {
-        return Way::Refused(wire::BELOW_FENCE);
-    }
-    if (h.op != wire::OP_READ) & h.version.session.same(Session(0)) {
-        return Way::Refused(wire::SESSIONLESS);
-    }
-    look(table, packet, h)
-}
 
-// The value that a reply carries: a part of the packet, or of the slot.
-fn value_in<'a>(r: Reply, table: &'a [u8], packet: &'a [u8]) -> &'a [u8]
-    requires { TableRules table.now }
-    ensures { result.now ≡ carried (table_of table.now) (value_of packet.now) r }
-{
-    if r.answer == wire::QUERY {
-        return packet::value_of(packet);
+    // Outgoing: from own id, which the packet was sent to, to 0; op, client, request, stamp and key kept.
+    fn send(&self, r: Reply, out: &mut [u8])
+        requires { (node_step (table_asked self.now) (asked_by self.now) ≡ ok (sent_by (table_asked self.now) (asked_by self.now) r)) × (outlet_size ≤ length out.old) }
+        ensures { out.new ≡ sent_in out.old (sent_by (table_asked self.now) (asked_by self.now) r).packet }
+    {
+        let value = self.value_in(r);
+        let head = Head {
+            answer: r.answer(),
+            from: self.head.to,
+            to: 0,
+            version: r.version(),
+            length: value.len() as u8,
+            ..self.head
+        };
+        packet::emit(out, head, packet::key_of(self.packet), value);
     }
-    if r.answer == wire::ANSWER_VALUE {
-        return table::value(table::row(table, r.slot));
-    }
-    &packet[..0]
-}
-
-// Outgoing: from own id, which the packet was sent to, to 0; op, client, request, stamp and key kept.
-fn send<'a>(r: Reply, table: &'a [u8], packet: &'a [u8], h: Head, out: &mut [u8])
-    requires { Comes table.now packet.now h (Sends r) × (outlet_size ≤ length out.old) }
-    ensures { out.new ≡ sent_in out.old (sent_by (table_of table.now) (asked h packet.now) r).packet }
-{
-    let stamp = h.stamp;
-    let v = r.version;
-    let value = value_in(r, table, packet);
-    let head = Head {
-        op: h.op,
-        answer: r.answer,
-        from: h.to,
-        to: 0,
-        client: h.client,
-        request: h.request,
-        stamp: stamp,
-        version: v,
-        length: value.len() as u8,
-    };
-    packet::emit(out, head, packet::key_of(packet), value);
 }
 
 // The state that a write or a delete leaves.
 fn written(op: u8) -> u8
     ensures { result ≡ pick (eqb op op_write) valued deleted }
 {
-    if op == wire::OP_WRITE {
-        store::VALUED
+    if op == Op::Write as u8 {
+        State::Valued as u8
     } else {
-        store::DELETED
+        State::Deleted as u8
     }
 }
 
 // A taken write or delete stores content and version; any other answer stores nothing.
-#[tactic(auto, using(crate::proofs::Laws::is_kept))]
 fn store_taken(r: Reply, table: &mut [u8], packet: &[u8], h: Head)
-    requires { Comes table.old packet.now h (Sends r) }
+    requires { Comes table.old packet.now h r }
     ensures { table.new ≡ write_bytes (sent_by (table_of table.old) (asked h packet.now) r).write table.old }
 {
-    if r.answer != wire::QUERY {
+    let Reply::Taken(version, slot) = r else {
         return;
-    }
-    let value = packet::value_of(packet);
+    };
     table::store(
         table,
-        r.slot,
+        slot,
         packet::key_of(packet),
         written(h.op),
-        r.version,
-        value,
+        version,
+        packet::value_of(packet),
     );
 }
 
-fn act(way: Way, table: &mut [u8], packet: &[u8], h: Head, out: &mut [u8]) -> u8
-    requires { Comes table.old packet.now h way × (outlet_size ≤ length out.old) }
-    ensures { NodeGives table.old packet.now out.old result table.new out.new }
+pub fn step(table: &mut [u8], packet: &[u8], out: &mut [u8]) -> Result<(), Refusal>
+    ensures { NodeGives table.old packet.now out.old (code result) table.new out.new }
 {
-    match way {
-        Way::Refused(n) => n,
-        Way::Sends(r) => {
-            send(r, table, packet, h, out);
-            store_taken(r, table, packet, h);
-            0
-        }
+    if !table::good(table) {
+        return Err(Refusal::Broken);
     }
-}
-
-pub fn step(table: &mut [u8], packet: &[u8], out: &mut [u8]) -> u8
-    ensures { NodeGives table.old packet.now out.old result table.new out.new }
-{
-    if table::good(table) {
-        if out.len() < wire::OUTLET_SIZE {
-            return wire::SMALL_OUTLET;
-        }
-        match packet::read(packet) {
-            Reading::Fields(h) => act(ask(table, packet, h), table, packet, h, out),
-            Reading::Unread(n) => n,
-        }
-    } else {
-        wire::BROKEN
+    if out.len() < wire::OUTLET_SIZE {
+        return Err(Refusal::SmallOutlet);
     }
+    let head = packet::read(packet)?;
+    let query = Query {
+        table,
+        packet,
+        head,
+    };
+    let r = query.ask()?;
+    query.send(r, out);
+    store_taken(r, table, packet, head);
+    Ok(())
 }

@@ -1,47 +1,48 @@
 -- The ways through the relay step: what the call and the step come to, by the facts that hold on each way.
 use Prim.Native.Nat.{ℕ, ◌<◌, ◌≤◌}
-use mathlib.Core.Path.{◌≡◌, refl, sym, ap, ◌∙◌, subst, ap₂}
+use mathlib.Core.Path.{◌≡◌, refl, sym, ap, ◌∙◌, ap₂}
 use mathlib.Core.List.{List, []}
 use mathlib.Core.Bool.{Bool, true, false, not, ◌&&◌}
 use native.Mathlib.Omega.{arith}
 use lib.ListN.{length, take, length-take}
 use lib.Seq.{take_all}
 use lib.Dec.{eqb}
+use denote.Bor.{Bor}
 use borrow.Author.Tests.{lt-ltb, le-ltb, eq-eqb, ne_eqb}
-use Rattle.wire.specs.Numbers.{Out, refuse, ok, guard, pick, broken, small_outlet, malformed, misaddressed, stranger, stopped}
+use Rattle.wire.specs.Numbers.{Out, refuse, ok, left, pick, broken, small_outlet, malformed, misaddressed, stranger, stopped}
 use Rattle.wire.specs.Version.{sequence}
-use Rattle.wire.specs.Packet.{Packet, packet, packet_of, head_of, key_of, value_of, sent_in, Formed, outlet_size, op_read, query, answer_written}
+use Rattle.wire.specs.Packet.{Packet, packet, packet_of, key_of, value_of, value_size, sent_in, Formed, Fit, outlet_size, op_read, query, answer_written}
 use Rattle.wire.specs.declared.Head.{Head}
 use Rattle.wire.specs.declared.Version.{Version}
-use Rattle.wire.proofs.Numbers.{pick_true, pick_false, pick_case, pass_guard, stop_guard, Reflects, reflects_yes, reflects_no, reflect_and, reflect_not, reflect_eqb}
+use Rattle.wire.proofs.Numbers.{refuse_inj, refuse_ok, ok_inj, pick_true, pick_false, pick_case, pass_guard, stop_guard, Reflects, reflects_yes, reflects_no, reflect_and, reflect_not, reflect_eqb}
 use Rattle.wire.proofs.Packet.{reflect_formed, ReadView}
 use Rattle.wire.proofs.RoundTrip.{fit_packet}
 use Rattle.steps.specs.declared.Chain.{Chain}
 use Rattle.steps.specs.Relay.{Outcome}
+use Rattle.steps.specs.declared.Destination.{Destination}
 use Rattle.steps.specs.declared.Destination.TheVariants.{ToNode, ToClient}
 use Rattle.steps.specs.Chain.{members, memb, first_of, last_of, next_of, chain_ok}
 use Rattle.steps.specs.Node.{is_read, Alters}
-use Rattle.steps.specs.Relay.{Way, node, client, to_node, to_client, from_client, onward, from_node, way_of, stops_way, stray_client, stray_node, packet_sent, outcome_of, outcome_number, relay_step, relay_call, RelayGives}
+use Rattle.steps.specs.Relay.{Way, node, client, to_node, to_client, from_client, onward, from_node, way_of, stops_way, stray_client, stray_node, packet_sent, outcome_of, relay_step, relay_call, RelayGives}
 use Rattle.steps.proofs.ChainRules.{reflect_chain}
 use Rattle.steps.proofs.Relay.{call_step}
 use Rattle.steps.proofs.RelayView.{RelayCase, new_read, new_write, handed, acknowledged, passed_on, relay_view}
 use Rattle.packet.specs.Emit.{emitted}
 use Rattle.packet.proofs.Laws.{emit_done}
-use Rattle.relay.specs.Ways.{read_as, Ready, unless_stopped, version_to, for_node, for_client, head_to, under_head, Leaves}
+use Rattle.relay.specs.Ways.{read_as, unless_stopped, version_to, for_node, for_client, head_to, under_head}
+use Rattle.relay.specs.Passages.{passing}
+use Rattle.relay.specs.declared.Passage.{Passage}
 
--- ---- what an answer leaves
+-- ---- what a call promises
 
--- an answer said in other words
-pub leaves_as : {out out' : List ℕ} {a b : Out Way} {o : Outcome} → a ≡ b → Leaves out b o out' → Leaves out a o out'
-leaves_as {out} {out'} {o = o} e l = subst (λ (x : Out Way). Leaves out x o out') (sym e) l
+-- by what it comes to
+gives : {r : Chain} {p out out' : List ℕ} {o : Outcome} (a : Out Way) → relay_call r p out ≡ a → o ≡ outcome_of a → out' ≡ left out (λ w. sent_in out (packet_sent w)) a
+    → RelayGives r p out o out'
+gives {out = out} a e o k = record { outcome = o ∙ ap outcome_of (sym e); outlet = k ∙ ap (left out (λ w. sent_in out (packet_sent w))) (sym e) }
 
 -- a refusal leaves the outlet as it was
-pub drops : {out : List ℕ} {a : Out Way} {n : ℕ} → a ≡ refuse n → Leaves out a (refuse n) out
-drops e = leaves_as e (record { outcome = refl; outlet = refl })
-
--- what a call promises
-pub gives : {r : Chain} {p out out' : List ℕ} {o : Outcome} → Leaves out (relay_call r p out) o out' → RelayGives r p out o out'
-gives l = record { outcome = l.outcome; outlet = l.outlet }
+pub drops : {r : Chain} {p out : List ℕ} {n : ℕ} → relay_call r p out ≡ refuse n → RelayGives r p out (refuse n) out
+drops {n = n} e = gives (refuse n) e refl refl
 
 -- ---- the call
 
@@ -67,9 +68,6 @@ module _ (r : Chain) (p out : List ℕ) where
       pub call_read : {head : Head} → ReadView p head → relay_call r p out ≡ relay_step r (read_as head p)
       unfolding packet_of
       call_read v = call_step r p out ((reflect_chain r).0 g) h v.formed ∙ ap (λ (x : Head). relay_step r (read_as x p)) (sym v.head)
-
-pub ready : {h : Head} {p out : List ℕ} → ReadView p h → outlet_size ≤ length out → Ready h p out
-ready v n = record { formed = v.formed; head = v.head; room = n }
 
 -- ---- the step
 
@@ -197,92 +195,82 @@ module _ (r : Chain) (p : Packet) where
   client_packet_lem (acknowledged k) = let e = client_query p k.asks in cc
   client_packet_lem (passed_on k) = cc
 
--- no refusal is number 0
-abbrev Positive : Out Way → Type 0
-Positive (refuse n) = n ≡ 0 → ⊥
-Positive (ok w) = Unit {0}
-
-guard_positive : (b : Bool) (n : ℕ) (y : Out Way) → 0 < n → Positive y → Positive (guard b n y)
-unfolding guard
-guard_positive true n y h g = λ e. omega arith
-guard_positive false n y h g = g
-
-step_positive : (r : Chain) (p : Packet) → Positive (relay_step r p)
-unfolding relay_step
-step_positive r p = guard_positive _ _ _ (omega arith) (guard_positive _ _ _ (omega arith) (guard_positive _ _ _ (omega arith) tt))
-
 -- ---- a packet that was read, under the head that is sent
 
-pub value_length : (p : List ℕ) → Formed p → length (value_of p) ≡ (head_of p).length
-unfolding packet_of
-value_length p f = (fit_packet p f).value
+abbrev pub passage : (r : Chain) (p : Bor (List ℕ)) {h : Head} → ReadView p.now h → Passage
+passage r p {h} v = record { chain = r; packet = p; head = h; formed = reflects_yes (reflect_formed p.now) v.formed; fields = v.head }
 
--- what is emitted is sent
-pub emitted_sent : {p k v out' : List ℕ} (out : List ℕ) (g : Head) → Formed p → outlet_size ≤ length out → g.length ≤ (head_of p).length → k ≡ key_of p → v ≡ value_of p
-    → out' ≡ emitted out (packet g k (take g.length v))
-    → out' ≡ sent_in out (under_head g p)
-unfolding packet_of
-emitted_sent {p} out g f n l e h o =
-    o
-    ∙ (ap₂ (λ (x y : List ℕ). emitted out (packet g x (take g.length y))) e h
-    ∙ emit_done out (under_head g p) n (fit_packet p f).key (simp length-take (omega (arith, f.small))))
+module _ (g : Passage) where
+  read_fit : Fit (packet_of g.packet.now)
+  read_fit = fit_packet g.packet.now ((reflect_formed g.packet.now).0 g.formed)
 
-module _ {h : Head} {p out : List ℕ} (d : Ready h p out) where
-  pub length_read : h.length ≡ length (value_of p)
-  length_read = ap (λ (g : Head). g.length) d.head ∙ sym (value_length p d.formed)
+  pub length_read : g.head.length ≡ length (value_of g.packet.now)
+  unfolding packet_of
+  length_read = ap (λ (h : Head). h.length) g.fields ∙ sym read_fit.value
 
-  client_under : under_head (for_client (read_as h p)).head p ≡ for_client (read_as h p)
+  read_small : g.head.length ≤ value_size
+  unfolding packet_of
+  read_small = omega (arith, read_fit.small, ap (λ (h : Head). h.length) g.fields)
+
+  client_under : under_head (for_client (passing g)).head g.packet.now ≡ for_client (passing g)
   unfolding for_client to_client
   client_under =
-      pick_case (λ (q : Packet). under_head q.head p ≡ q) _ _ _ (λ _. refl)
-      (λ _. ap (packet (to_client h.answer (value_of p) (read_as h p)).head (key_of p)) (take_all (length (value_of p)) (value_of p) (omega arith)))
+      pick_case (λ (q : Packet). under_head q.head g.packet.now ≡ q) _ _ _ (λ _. refl)
+      (λ _. ap (packet (to_client g.head.answer (value_of g.packet.now) (passing g)).head (key_of g.packet.now)) (take_all (length (value_of g.packet.now)) (value_of g.packet.now) (omega arith)))
 
-  client_length : (for_client (read_as h p)).head.length ≤ h.length
+  client_length : (for_client (passing g)).head.length ≤ g.head.length
   unfolding for_client to_client
-  client_length = pick_case (λ (q : Packet). q.head.length ≤ h.length) _ _ _ (λ _. omega arith) (λ _. omega (arith, length_read))
+  client_length = pick_case (λ (q : Packet). q.head.length ≤ g.head.length) _ _ _ (λ _. omega arith) (λ _. omega (arith, length_read))
 
-  module _ (r : Chain) where
-    node_under : (j : ℕ) → under_head (for_node r j (read_as h p)).head p ≡ for_node r j (read_as h p)
-    unfolding to_node
-    node_under j = ap (packet (for_node r j (read_as h p)).head (key_of p)) (take_all h.length (value_of p) (omega (arith, length_read)))
+  node_under : (j : ℕ) → under_head (for_node g.chain j (passing g)).head g.packet.now ≡ for_node g.chain j (passing g)
+  unfolding to_node
+  node_under j = ap (packet (for_node g.chain j (passing g)).head (key_of g.packet.now)) (take_all g.head.length (value_of g.packet.now) (omega (arith, length_read)))
 
-    node_length : (j : ℕ) → (for_node r j (read_as h p)).head.length ≤ h.length
-    unfolding to_node
-    node_length j = omega arith
+  -- no head asks for more than there is
+  fits_to : (d : Destination) → (head_to g.chain (passing g) d).length ≤ g.head.length
+  unfolding to_node
+  fits_to (ToNode j) = omega arith
+  fits_to ToClient = client_length
 
-    -- no head asks for more than there is
-    pub length_to : (o : Outcome) {g : Head} → g ≡ head_to r (read_as h p) o → g.length ≤ (head_of p).length
-    length_to o {g} e =
-        subst (λ (x : Head). g.length ≤ x.length) d.head (subst (λ (x : Head). x.length ≤ h.length) (sym e) (go o))
+  pub length_to : (d : Destination) → (head_to g.chain (passing g) d).length ≡ length (take (head_to g.chain (passing g) d).length (value_of g.packet.now))
+  length_to d = simp length-take (omega (arith, fits_to d, length_read))
+
+  -- what is emitted is sent
+  pub is_sent : (d : Destination) (out : List ℕ) {h : Head} {k v out' : List ℕ} → outlet_size ≤ length out → h ≡ head_to g.chain (passing g) d → k ≡ key_of g.packet.now
+      → v ≡ value_of g.packet.now → out' ≡ emitted out (packet h k (take h.length v))
+      → out' ≡ sent_in out (under_head (head_to g.chain (passing g) d) g.packet.now)
+  unfolding packet_of
+  is_sent d out room eh ek ev e =
+      e
+      ∙ ((λ j. emitted out (packet (eh j) (ek j) (take (eh j).length (ev j))))
+      ∙ emit_done out (under_head (head_to g.chain (passing g) d) g.packet.now) room read_fit.key (simp length-take (omega (arith, length_read, read_small))))
+
+  -- the head for where the step sends it is that of the packet that is sent
+  sent_under : (w : Way) {d : Destination} → relay_step g.chain (passing g) ≡ ok w → ok d ≡ outcome_of (ok w) → under_head (head_to g.chain (passing g) d) g.packet.now ≡ packet_sent w
+  sent_under (node j q) e f =
+      ap (λ (d : Destination). under_head (head_to g.chain (passing g) d) g.packet.now) (ok_inj f)
+      ∙ (node_under j ∙ sym (node_packet g.chain (passing g) (relay_view g.chain (passing g) (node j q) e).case))
+  sent_under (client q) e f =
+      ap (λ (d : Destination). under_head (head_to g.chain (passing g) d) g.packet.now) (ok_inj f)
+      ∙ (client_under ∙ sym (client_packet_lem g.chain (passing g) (relay_view g.chain (passing g) (client q) e).case))
+
+  module _ (out : List ℕ) (whole : chain_ok g.chain ≡ true) (room : outlet_size ≤ length out) where
+    comes : relay_call g.chain g.packet.now out ≡ relay_step g.chain (passing g)
+    comes = call_read g.chain g.packet.now out whole room (record { formed = (reflect_formed g.packet.now).0 g.formed; head = g.fields })
+
+    -- what the call promises, by where the packet goes
+    pub gives_refused : {n : ℕ} → refuse n ≡ outcome_of (relay_step g.chain (passing g)) → RelayGives g.chain g.packet.now out (refuse n) out
+    gives_refused {n} e = go (relay_step g.chain (passing g)) refl e
       where
-        go : (o : Outcome) → (head_to r (read_as h p) o).length ≤ h.length
-        go (ok (ToNode j)) = node_length j
-        go ToClient = client_length
-        go (refuse n) = omega arith
+        go : (a : Out Way) → relay_step g.chain (passing g) ≡ a → refuse n ≡ outcome_of a → RelayGives g.chain g.packet.now out (refuse n) out
+        go (refuse m) s e = drops (comes ∙ (s ∙ ap refuse (sym (refuse_inj e))))
+        go (ok (node j q)) s e = absurd (refuse_ok e)
+        go (ok (client q)) s e = absurd (refuse_ok e)
 
-    -- the head for an outcome is that of the packet that the step sends
-    sent_under : (w : Way) → relay_step r (read_as h p) ≡ ok w → under_head (head_to r (read_as h p) (outcome_of (ok w))) p ≡ packet_sent w
-    sent_under (node j q) e = node_under j ∙ sym (node_packet r (read_as h p) (relay_view r (read_as h p) (node j q) e).case)
-    sent_under (client q) e = client_under ∙ sym (client_packet_lem r (read_as h p) (relay_view r (read_as h p) (client q) e).case)
-
-    module _ {o : Outcome} (e : o ≡ outcome_of (relay_step r (read_as h p))) where
-      -- a refusal leaves the outlet as it was
-      pub leaves_kept : (outcome_number o ≡ 0 → ⊥) → Leaves out (relay_step r (read_as h p)) o out
-      leaves_kept n = go (relay_step r (read_as h p)) e
-        where
-          go : (a : Out Way) → o ≡ outcome_of a → Leaves out a o out
-          go (refuse m) e = record { outcome = e; outlet = refl }
-          go (ok (node j q)) e = absurd (n (ap outcome_number e))
-          go (ok (client q)) e = absurd (n (ap outcome_number e))
-
-      -- what is sent stands in the outlet
-      pub leaves_sent : outcome_number o ≡ 0 → {g : Head} {out' : List ℕ} → g ≡ head_to r (read_as h p) o → out' ≡ sent_in out (under_head g p)
-          → Leaves out (relay_step r (read_as h p)) o out'
-      leaves_sent z {g} {out'} f k = go (relay_step r (read_as h p)) refl e
-        where
-          go : (a : Out Way) → relay_step r (read_as h p) ≡ a → o ≡ outcome_of a → Leaves out a o out'
-          go (refuse n) d e = absurd (subst Positive d (step_positive r (read_as h p)) (sym (ap outcome_number e) ∙ z))
-          go (ok w) d e = record {
-            outcome = e;
-            outlet = k ∙ (ap (λ (x : Head). sent_in out (under_head x p)) (f ∙ ap (head_to r (read_as h p)) e) ∙ ap (sent_in out) (sent_under w d));
-          }
+    pub gives_sent : {d : Destination} {out' : List ℕ} → ok d ≡ outcome_of (relay_step g.chain (passing g))
+        → out' ≡ sent_in out (under_head (head_to g.chain (passing g) d) g.packet.now) → RelayGives g.chain g.packet.now out (ok d) out'
+    gives_sent {d} {out'} e k = go (relay_step g.chain (passing g)) refl e
+      where
+        go : (a : Out Way) → relay_step g.chain (passing g) ≡ a → ok d ≡ outcome_of a → RelayGives g.chain g.packet.now out (ok d) out'
+        go (refuse m) s e = absurd (refuse_ok (sym e))
+        go (ok w) s e = gives (ok w) (comes ∙ s) e (k ∙ ap (sent_in out) (sent_under w s e))

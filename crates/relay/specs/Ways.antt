@@ -1,25 +1,19 @@
--- What the parts of the relay step promise each other: a packet that was read, its way past the stops, what is sent there, and what an answer leaves.
-use Rattle.std.specs.Prelude.{ℕ, ◌≤◌, ◌≡◌, List, [], ◌∷◌, ◌&&◌, not, eqb, length, take}
-use Rattle.wire.specs.Numbers.{Out, ok, left, judge, test, stopped, pick}
+-- What the parts of the relay step promise each other: a packet that was read, its way past the stops, and what is sent there.
+use Rattle.std.specs.Prelude.{ℕ, List, [], ◌∷◌, ◌&&◌, not, eqb, take}
+use Rattle.wire.specs.Numbers.{Out, ok, judge, test, stopped, pick}
 use Rattle.wire.specs.Version.{sequence}
-use Rattle.wire.specs.Packet.{Packet, packet, head_of, key_of, value_of, sent_in, Formed, outlet_size, query, answer_written}
+use Rattle.wire.specs.Packet.{Packet, packet, key_of, value_of, query, answer_written}
 use Rattle.wire.specs.declared.Head.{Head}
 use Rattle.wire.specs.declared.Version.{Version}
 use Rattle.steps.specs.declared.Chain.{Chain}
-use Rattle.steps.specs.Relay.{Outcome}
+use Rattle.steps.specs.declared.Destination.{Destination}
 use Rattle.steps.specs.declared.Destination.TheVariants.{ToNode, ToClient}
 use Rattle.steps.specs.Node.{is_read}
-use Rattle.steps.specs.Relay.{Way, to_node, to_client, stops_way, packet_sent, outcome_of}
+use Rattle.steps.specs.Relay.{Way, to_node, to_client, stops_way}
 
 -- the packet of bytes whose head was read
 abbrev pub read_as : Head → List ℕ → Packet
 read_as h p = packet h (key_of p) (value_of p)
-
--- bytes that were read, and an outlet that can hold what is sent
-pub record Ready (h : Head) (p out : List ℕ) : Type 0 where
-  pub formed : Formed p
-  pub head : h ≡ head_of p
-  pub room : outlet_size ≤ length out
 
 -- a way, unless it is stopped
 unfoldable pub unless_stopped : Chain → Packet → Way → Out Way
@@ -36,17 +30,11 @@ for_node r j p = to_node r j (version_to r p) p
 unfoldable pub for_client : Packet → Packet
 for_client p = pick (eqb p.head.answer query) (to_client answer_written [] p) (to_client p.head.answer p.value p)
 
--- the head for where a packet goes; what is dropped keeps its own
-abbrev pub head_to : Chain → Packet → Outcome → Head
-head_to r p (ok (ToNode j)) = (for_node r j p).head
+-- the head for where a packet goes
+abbrev pub head_to : Chain → Packet → Destination → Head
+head_to r p (ToNode j) = (for_node r j p).head
 head_to r p ToClient = (for_client p).head
-head_to r p (refuse n) = p.head
 
 -- a packet under another head: its key, and as much of its value as the head says
 abbrev pub under_head : Head → List ℕ → Packet
 under_head g p = packet g (key_of p) (take g.length (value_of p))
-
--- what an answer leaves: its outcome, and the outlet afterwards
-pub record Leaves (out : List ℕ) (a : Out Way) (o : Outcome) (out' : List ℕ) : Type 0 where
-  pub outcome : o ≡ outcome_of a
-  pub outlet : ◌≡◌ {A = List ℕ} out' (left out (λ w. sent_in out (packet_sent w)) a)

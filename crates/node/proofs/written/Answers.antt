@@ -4,8 +4,8 @@ use Rattle.std.proofs.Common.{sym}
 use Rattle.wire.proofs.Numbers.{pick_true, pick_false}
 use Rattle.node.proofs.written.Goals as goal
 
-pub returns-then-op-eq-OP_WRITE : goal.returns-then-op-eq-OP_WRITE
-returns-then-op-eq-OP_WRITE c = sym (pick_true _ _ _ (eq-eqb _ _ c.if-op-eq-OP_WRITE.true))
+pub returns-then-op : goal.returns-then-op
+returns-then-op c = sym (pick_true _ _ _ (eq-eqb _ _ c.if-op.true))
 
-pub returns-else-op-eq-OP_WRITE : goal.returns-else-op-eq-OP_WRITE
-returns-else-op-eq-OP_WRITE c = sym (pick_false _ _ _ (ne_eqb _ _ c.if-op-eq-OP_WRITE.false))
+pub returns-else-op : goal.returns-else-op
+returns-else-op c = sym (pick_false _ _ _ (ne_eqb _ _ c.if-op.false))
