@@ -26,7 +26,7 @@ fn session_after(s: Session, first_changes: bool) -> Session
 fn open_rows(c: Chain, after: bool, named: u16, fresh: u16) -> Result<(), Refusal>
     ensures { code result ≡ first_number (test broken (not (chain_ok c)) ∷ open_tests c after named fresh) }
 {
-    let away = !chain::member(c, named) | (after & (named != chain::last(c)));
+    let away = !chain::member(c, named) || (after && named != chain::last(c));
     wire::first_of([
         (!chain::good(c), Refusal::Broken),
         (c.wiring.last(), Refusal::NoNumberLeft),
@@ -98,8 +98,8 @@ fn activate_rows(c: Chain) -> Result<(), Refusal>
 {
     wire::first_of([
         (!chain::good(c), Refusal::Broken),
-        (becomes_first(c) & c.session.last(), Refusal::NoNumberLeft),
-        (!c.change.is_open() | slots_left(c), Refusal::OutOfTurn),
+        (becomes_first(c) && c.session.last(), Refusal::NoNumberLeft),
+        (!c.change.is_open() || slots_left(c), Refusal::OutOfTurn),
     ])
 }
 
