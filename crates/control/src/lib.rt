@@ -1,255 +1,117 @@
 // The controller steps that touch a table: fence, copy, enter.
+// A step is its rows, the first of which that applies refuses, and then what it does to the record and the table.
 
 #![tactic(auto)]
 
-ghost use Rattle.std.specs.Prelude.{◌≡◌, ◌||◌, not, ◌<◌, eqb};
-ghost use Rattle.wire.specs.Numbers.{first_number};
-ghost use Rattle.store.specs.Table.{find, slots, whole_slots, entered_slot};
-ghost use Rattle.table.specs.Parts.{slot_stored};
-ghost use Rattle.steps.specs.Chain.{when_open};
-ghost use Rattle.steps.specs.Node.{is_nothing};
-ghost use Rattle.steps.specs.Control.{FenceGives, CopyGives, EnterGives, marked_change};
-ghost use Rattle.control.specs.Turn.{fence_turn, fence_all, copy_turn, copy_all, next_change, enter_turn, enter_first};
+ghost use Rattle.std.specs.Prelude.{◌≡◌};
+ghost use Rattle.std.specs.Option.{ForSome};
+ghost use Rattle.wire.specs.Numbers.{code, first_number};
+ghost use Rattle.steps.specs.Chain.{joined};
+ghost use Rattle.steps.specs.Control.{FenceGives, CopyGives, EnterGives};
+ghost use Rattle.control.specs.Turn.{Mapped, fence_all, copy_all, enter_first};
 
-use chain::{is_open, with_change};
-use steps::{Chain, Change, Joining, Ruling};
-use store::{ENTERED, Found};
-use wire::{
-    BROKEN, CHANGE_OPEN, FENCE_ABOVE, KEY_THERE, NO_FREE_SLOT, NOT_MEANT, OTHER_COUNT, OUT_OF_TURN,
-    Stamp, Version, choose,
-};
+use steps::{Chain, Change, Joining};
+use store::State;
+use wire::{Refusal, Version};
 
-// ---- fence
-
-fn other_named(ch: Change, id: u16) -> bool
-    ensures { result ≡ when_open ch (λ j. not (eqb id j.named)) }
-{
-    match ch {
-        Change::Still => false,
-        Change::Before(j) => id != j.named,
-        Change::After(j) => id != j.named,
-    }
-}
-
-fn fence_turn(c: Chain, id: u16, count: u16, fence: Stamp) -> u8
-    ensures { result ≡ fence_turn c id count fence }
-{
-    let w = c.wiring;
-    let ch = c.change;
-    let opened = is_open(ch);
-    let n = choose(opened & w.less(fence), FENCE_ABOVE, 0);
-    let n = choose(opened & (count != c.count), OTHER_COUNT, n);
-    let n = choose(other_named(ch, id), NOT_MEANT, n);
-    choose(!opened, OUT_OF_TURN, n)
-}
-
-fn fence_number(c: Chain, table: &[u8]) -> u8
-    ensures { result ≡ first_number (fence_all c table.now) }
-{
-    let n = fence_turn(
-        c,
-        table::id(table),
-        table::count(table),
-        table::fence(table),
-    );
-    choose(!chain::good(c) | !table::good(table), BROKEN, n)
-}
-
-fn marked(ch: Change) -> Change
-    ensures { result ≡ marked_change ch }
+// The change with the node that joins, on either side, as f makes it.
+fn map_joining<F: FnOnce(Joining) -> Joining>(ch: Change, f: F) -> Change
+    requires { ForSome (joined ch) (F.pre f) }
+    ensures { Mapped (F.post f) ch result }
 {
     match ch {
         Change::Still => Change::Still,
-        Change::Before(j) => Change::Before(Joining {
-            named: j.named,
-            fresh: j.fresh,
-            fenced: true,
-            next: j.next,
-        }),
-        Change::After(j) => Change::After(Joining {
-            named: j.named,
-            fresh: j.fresh,
-            fenced: true,
-            next: j.next,
-        }),
+        Change::Before(j) => Change::Before(f(j)),
+        Change::After(j) => Change::After(f(j)),
     }
 }
 
-pub fn fence(c: Chain, table: &mut [u8]) -> Ruling
-    ensures { FenceGives c table.old result.number result.chain table.new }
+// ---- fence
+
+fn fence_rows(c: Chain, table: &[u8]) -> Result<(), Refusal>
+    ensures { code result ≡ first_number (fence_all c table.now) }
 {
-    let n = fence_number(c, table);
-    if n == 0 {
-        let w = c.wiring;
-        let ch = c.change;
-        table::set_fence(table, w);
-        return Ruling {
-            number: 0,
-            chain: with_change(c, marked(ch)),
-        };
-    }
-    Ruling {
-        number: n,
-        chain: c,
-    }
+    let joins = c.change.joining();
+    wire::first_of([
+        (!chain::good(c) || !table::good(table), Refusal::Broken),
+        (joins.is_none(), Refusal::OutOfTurn),
+        (
+            joins.is_some_and(|j| table::id(table) != j.named),
+            Refusal::NotMeant,
+        ),
+        (table::count(table) != c.count, Refusal::OtherCount),
+        (c.wiring < table::fence(table), Refusal::FenceAbove),
+    ])
+}
+
+pub fn fence(c: &mut Chain, table: &mut [u8]) -> Result<(), Refusal>
+    ensures { FenceGives c.old table.old (code result) c.new table.new }
+{
+    fence_rows(*c, table)?;
+    table::set_fence(table, c.wiring);
+    c.change = map_joining(c.change, |j| Joining { fenced: true, ..j });
+    Ok(())
 }
 
 // ---- copy
 
-fn wide(n: u16) -> usize
-    ensures { (result ≡ n) × (result < 65536) }
+fn copy_rows(c: Chain, i: u16, named: &[u8], fresh: &[u8]) -> Result<(), Refusal>
+    ensures { code result ≡ first_number (copy_all c i named.now fresh.now) }
 {
-    n as usize
+    let joins = c.change.joining();
+    let from = table::id(named);
+    let to = table::id(fresh);
+    let broken = !chain::good(c) || !table::good(named) || !table::good(fresh);
+    // Not fenced, another slot than the next, or none left.
+    let out_of_turn = joins.is_none_or(|j| !j.fenced || i != j.next || j.next == c.count);
+    let not_meant = joins.is_some_and(|j| from != j.named || to != j.fresh);
+    let other_count = table::count(named) != c.count || table::count(fresh) != c.count;
+    wire::first_of([
+        (broken, Refusal::Broken),
+        (out_of_turn, Refusal::OutOfTurn),
+        (not_meant, Refusal::NotMeant),
+        (other_count, Refusal::OtherCount),
+    ])
 }
 
-// Whether the change is open and slot i is not the next one: unfenced, another slot, or none left.
-fn not_next(ch: Change, i: u16, count: u16) -> bool
-    ensures { result ≡ when_open ch (λ j. not j.fenced || (not (eqb i j.next) || eqb j.next count)) }
+pub fn copy(c: &mut Chain, i: u16, named: &[u8], fresh: &mut [u8]) -> Result<(), Refusal>
+    ensures { CopyGives c.old i named.now fresh.old (code result) c.new fresh.new }
 {
-    match ch {
-        Change::Still => false,
-        Change::Before(j) => !j.fenced | ((i != j.next) | (j.next == count)),
-        Change::After(j) => !j.fenced | ((i != j.next) | (j.next == count)),
-    }
-}
-
-fn other_ids(ch: Change, named: u16, fresh: u16) -> bool
-    ensures { result ≡ when_open ch (λ j. not (eqb named j.named) || not (eqb fresh j.fresh)) }
-{
-    match ch {
-        Change::Still => false,
-        Change::Before(j) => (named != j.named) | (fresh != j.fresh),
-        Change::After(j) => (named != j.named) | (fresh != j.fresh),
-    }
-}
-
-fn copy_turn(c: Chain, i: u16, named: u16, fresh: u16, m: u16, n: u16) -> u8
-    ensures { result ≡ copy_turn c i named fresh m n }
-{
-    let ch = c.change;
-    let opened = is_open(ch);
-    let r = choose(opened & ((m != c.count) | (n != c.count)), OTHER_COUNT, 0);
-    let r = choose(other_ids(ch, named, fresh), NOT_MEANT, r);
-    choose(!opened | not_next(ch, i, c.count), OUT_OF_TURN, r)
-}
-
-fn copy_number(c: Chain, i: u16, named: &[u8], fresh: &[u8]) -> u8
-    ensures { result ≡ first_number (copy_all c i named.now fresh.now) }
-{
-    let n = copy_turn(
-        c,
-        i,
-        table::id(named),
-        table::id(fresh),
-        table::count(named),
-        table::count(fresh),
+    copy_rows(*c, i, named, fresh)?;
+    table::copy_slot(named, fresh, i as usize);
+    c.change = map_joining(
+        c.change,
+        |j| Joining {
+            next: j.next + 1,
+            ..j
+        },
     );
-    choose(
-        !chain::good(c) | (!table::good(named) | !table::good(fresh)),
-        BROKEN,
-        n,
-    )
-}
-
-fn moved(ch: Change, next: u16) -> Change
-    ensures { result ≡ next_change ch next }
-{
-    match ch {
-        Change::Still => Change::Still,
-        Change::Before(j) => Change::Before(Joining {
-            named: j.named,
-            fresh: j.fresh,
-            fenced: j.fenced,
-            next: next,
-        }),
-        Change::After(j) => Change::After(Joining {
-            named: j.named,
-            fresh: j.fresh,
-            fenced: j.fenced,
-            next: next,
-        }),
-    }
-}
-
-pub fn copy(c: Chain, i: u16, named: &[u8], fresh: &mut [u8]) -> Ruling
-    ensures { CopyGives c i named.now fresh.old result.number result.chain fresh.new }
-{
-    let n = copy_number(c, i, named, fresh);
-    if n == 0 {
-        let ch = c.change;
-        table::copy_slot(named, fresh, wide(i));
-        return Ruling {
-            number: 0,
-            chain: with_change(c, moved(ch, i + 1)),
-        };
-    }
-    Ruling {
-        number: n,
-        chain: c,
-    }
+    Ok(())
 }
 
 // ---- enter
 
-fn is_nothing(f: Found) -> bool
-    ensures { result ≡ is_nothing f }
+// All rows but the last, which asks for a free slot.
+fn enter_rows(c: Chain, table: &[u8], id: u16, key: &[u8]) -> Result<(), Refusal>
+    ensures { code result ≡ first_number (enter_first c table.now id key.now) }
 {
-    match f {
-        Found::At(_) => false,
-        Found::Nothing => true,
-    }
+    wire::first_of([
+        (!chain::good(c) || !table::good(table), Refusal::Broken),
+        (c.change.is_open(), Refusal::ChangeOpen),
+        (
+            !chain::member(c, id) || table::id(table) != id,
+            Refusal::NotMeant,
+        ),
+        (table::count(table) != c.count, Refusal::OtherCount),
+        (table::find(table, key).is_some(), Refusal::KeyThere),
+    ])
 }
 
-fn key_there(table: &[u8], key: &[u8]) -> bool
-    ensures { result ≡ not (is_nothing (find key.now (slots (whole_slots table.now) table.now))) }
+pub fn enter(c: Chain, table: &mut [u8], id: u16, key: &[u8; 16]) -> Result<(), Refusal>
+    ensures { EnterGives c table.old id key.now (code result) table.new }
 {
-    !is_nothing(table::find(table, key))
-}
-
-fn enter_turn(c: Chain, at: u16, id: u16, count: u16, there: bool) -> u8
-    ensures { result ≡ enter_turn c at id count there }
-{
-    let ch = c.change;
-    let n = choose(there, KEY_THERE, 0);
-    let n = choose(count != c.count, OTHER_COUNT, n);
-    let n = choose(!chain::member(c, id) | (at != id), NOT_MEANT, n);
-    choose(is_open(ch), CHANGE_OPEN, n)
-}
-
-fn enter_number(c: Chain, table: &[u8], id: u16, key: &[u8]) -> u8
-    ensures { result ≡ first_number (enter_first c table.now id key.now) }
-{
-    let n = enter_turn(
-        c,
-        table::id(table),
-        id,
-        table::count(table),
-        key_there(table, key),
-    );
-    choose(!chain::good(c) | !table::good(table), BROKEN, n)
-}
-
-fn put_key(table: &mut [u8], i: usize, key: &[u8])
-    ensures { table.new ≡ slot_stored table.old i (entered_slot key.now) }
-{
-    table::store(table, i, key, ENTERED, Version::new(0, 0), &key[..0]);
-}
-
-pub fn enter(c: Chain, table: &mut [u8], id: u16, key: &[u8; 16]) -> u8
-    ensures { EnterGives c table.old id key.now result table.new }
-{
-    let n = enter_number(c, table, id, key);
-    if n != 0 {
-        return n;
-    }
-    let free = table::lowest_free(table);
-    match free {
-        Found::At(i) => {
-            put_key(table, i, key);
-            return 0;
-        }
-        Found::Nothing => {
-            return NO_FREE_SLOT;
-        }
-    }
+    enter_rows(c, table, id, key)?;
+    let i = table::lowest_free(table).ok_or(Refusal::NoFreeSlot)?;
+    table::store(table, i, key, State::Entered as u8, Version::new(0, 0), &[]);
+    Ok(())
 }

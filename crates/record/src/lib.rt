@@ -1,85 +1,60 @@
 // The controller steps on the record alone: open, activate, cancel, remove.
-// A step's number is made from its last row up: a row that applies takes the place of those behind it.
+// A step is its rows, the first of which that applies refuses, and then what it does to the record.
 
 #![tactic(auto)]
 
-ghost use Rattle.std.specs.Prelude.{◌≡◌, not, [], ◌∷◌, ◌<◌, ltb};
-ghost use Rattle.wire.specs.Numbers.{pick, test, first_number, broken, out_of_turn};
+ghost use Rattle.std.specs.Prelude.{◌≡◌, not, [], ◌∷◌, ltb};
+ghost use Rattle.wire.specs.Numbers.{pick, code, test, first_number, broken, out_of_turn};
 ghost use Rattle.wire.specs.Version.{next_session};
-ghost use Rattle.steps.specs.Chain.{most_nodes, chain_ok, is_open, when_open, with_members};
-ghost use Rattle.steps.specs.Control.{ChainGives, change_for, opened, open_tests, open_call, becomes_first, join_place, join_id, activated, activate_tests, activate_call, cancel_call, removed, remove_tests, remove_call};
+ghost use Rattle.steps.specs.Chain.{chain_ok, is_open, when_open};
+ghost use Rattle.steps.specs.Control.{ChainGives, open_tests, open_call, becomes_first, join_place, join_id, activate_tests, activate_call, cancel_call, remove_tests, remove_call};
 
-use chain::{MOST_NODES, is_open, with_change};
-use steps::{Chain, Change, Joining, Ruling};
-use wire::{
-    BROKEN, CHAIN_FULL, CHANGE_OPEN, ID_USED, NO_NUMBER_LEFT, NOT_MEANT, ONLY_NODE, OUT_OF_TURN,
-    Session, choose,
-};
+use chain::MOST_NODES;
+use steps::{Chain, Change, Joining};
+use wire::{Kind, Refusal, Session};
+
+// The session goes on by one where another node becomes the first.
+#[tactic(auto, unfolding(wire::specs::Numbers::pick))]
+fn session_after(s: Session, first_changes: bool) -> Session
+    ensures { result ≡ pick first_changes (next_session s) s }
+{
+    if first_changes { s.next() } else { s }
+}
 
 // ---- open
 
-fn change_for(after: bool, j: Joining) -> Change
-    ensures { result ≡ change_for after j }
+fn open_rows(c: Chain, after: bool, named: u16, fresh: u16) -> Result<(), Refusal>
+    ensures { code result ≡ first_number (test broken (not (chain_ok c)) ∷ open_tests c after named fresh) }
 {
-    if after {
-        Change::After(j)
-    } else {
-        Change::Before(j)
-    }
+    let away = !chain::member(c, named) || (after && named != chain::last(c));
+    wire::first_of([
+        (!chain::good(c), Refusal::Broken),
+        (c.wiring.last(), Refusal::NoNumberLeft),
+        (c.change.is_open(), Refusal::ChangeOpen),
+        (away, Refusal::NotMeant),
+        (fresh <= c.highest, Refusal::IdUsed),
+        (c.length as usize == MOST_NODES, Refusal::ChainFull),
+    ])
 }
 
-fn open_turn(c: Chain, after: bool, named: u16, fresh: u16) -> u8
-    ensures { result ≡ first_number (test broken (not (chain_ok c)) ∷ open_tests c after named fresh) }
+pub fn open(c: &mut Chain, after: bool, named: u16, fresh: u16) -> Result<(), Refusal>
+    ensures { ChainGives c.old (open_call c.old after named fresh) (code result) c.new }
 {
-    let w = c.wiring;
-    let ch = c.change;
-    let length = c.length as usize;
-    let away = !chain::member(c, named) | (after & (named != chain::last(c)));
-    let n = choose(length == MOST_NODES, CHAIN_FULL, 0);
-    let n = choose(fresh <= c.highest, ID_USED, n);
-    let n = choose(away, NOT_MEANT, n);
-    let n = choose(is_open(ch), CHANGE_OPEN, n);
-    let n = choose(w.last(), NO_NUMBER_LEFT, n);
-    choose(!chain::good(c), BROKEN, n)
-}
-
-fn opened(c: Chain, after: bool, named: u16, fresh: u16) -> Chain
-    ensures { result ≡ opened c after named fresh }
-{
-    let places = c.places;
-    let wiring = c.wiring;
-    let session = c.session;
+    open_rows(*c, after, named, fresh)?;
     let j = Joining {
-        named: named,
-        fresh: fresh,
+        named,
+        fresh,
         fenced: false,
         next: 0,
     };
-    Chain {
-        length: c.length,
-        places: places,
-        wiring: wiring.next(),
-        session: session,
-        highest: fresh,
-        count: c.count,
-        change: change_for(after, j),
-    }
-}
-
-pub fn open(c: Chain, after: bool, named: u16, fresh: u16) -> Ruling
-    ensures { ChainGives c (open_call c after named fresh) result.number result.chain }
-{
-    let n = open_turn(c, after, named, fresh);
-    if n == 0 {
-        return Ruling {
-            number: 0,
-            chain: opened(c, after, named, fresh),
-        };
-    }
-    Ruling {
-        number: n,
-        chain: c,
-    }
+    c.wiring = c.wiring.next();
+    c.highest = fresh;
+    c.change = if after {
+        Change::After(j)
+    } else {
+        Change::Before(j)
+    };
+    Ok(())
 }
 
 // ---- activate
@@ -88,11 +63,9 @@ pub fn open(c: Chain, after: bool, named: u16, fresh: u16) -> Ruling
 fn becomes_first(c: Chain) -> bool
     ensures { result ≡ becomes_first c c.change }
 {
-    let ch = c.change;
-    match ch {
-        Change::Still => false,
+    match c.change {
         Change::Before(j) => j.named == chain::first(c),
-        Change::After(_) => false,
+        Change::Still | Change::After(_) => false,
     }
 }
 
@@ -100,8 +73,7 @@ fn becomes_first(c: Chain) -> bool
 fn join_place(c: Chain) -> usize
     ensures { result ≡ join_place c c.change }
 {
-    let ch = c.change;
-    match ch {
+    match c.change {
         Change::Still => 0,
         Change::Before(j) => chain::place(c, j.named),
         Change::After(j) => chain::place(c, j.named) + 1,
@@ -111,145 +83,83 @@ fn join_place(c: Chain) -> usize
 fn join_id(ch: Change) -> u16
     ensures { result ≡ join_id ch }
 {
-    match ch {
-        Change::Still => 0,
-        Change::Before(j) => j.fresh,
-        Change::After(j) => j.fresh,
-    }
+    ch.joining().map_or(0, |j| j.fresh)
 }
 
 // Whether a slot is not yet copied.
 fn slots_left(c: Chain) -> bool
     ensures { result ≡ when_open c.change (λ j. ltb j.next c.count) }
 {
-    let ch = c.change;
-    match ch {
-        Change::Still => false,
-        Change::Before(j) => j.next < c.count,
-        Change::After(j) => j.next < c.count,
-    }
+    c.change.joining().is_some_and(|j| j.next < c.count)
 }
 
-fn raised(up: bool, s: Session) -> Session
-    ensures { result ≡ pick up (next_session s) s }
+fn activate_rows(c: Chain) -> Result<(), Refusal>
+    ensures { code result ≡ first_number (test broken (not (chain_ok c)) ∷ activate_tests c) }
 {
-    if up { s.next() } else { s }
+    wire::first_of([
+        (!chain::good(c), Refusal::Broken),
+        (becomes_first(c) && c.session.last(), Refusal::NoNumberLeft),
+        (!c.change.is_open() || slots_left(c), Refusal::OutOfTurn),
+    ])
 }
 
-// The record with other members, its session raised or not, and no change.
-fn with_members(c: Chain, length: u8, places: [u16; 8], up: bool) -> Chain
-    ensures { result ≡ with_members c length places (pick up (next_session c.session) c.session) }
+pub fn activate(c: &mut Chain) -> Result<(), Refusal>
+    ensures { ChainGives c.old (activate_call c.old) (code result) c.new }
 {
-    let wiring = c.wiring;
-    let session = c.session;
-    Chain {
-        length: length,
-        places: places,
-        wiring: wiring,
-        session: raised(up, session),
-        highest: c.highest,
-        count: c.count,
+    activate_rows(*c)?;
+    *c = Chain {
+        length: c.length + 1,
+        places: chain::insert(c.places, join_place(*c), join_id(c.change)),
+        session: session_after(c.session, becomes_first(*c)),
         change: Change::Still,
-    }
-}
-
-fn activate_turn(c: Chain) -> u8
-    ensures { result ≡ first_number (test broken (not (chain_ok c)) ∷ activate_tests c) }
-{
-    let s = c.session;
-    let ch = c.change;
-    let n = choose(!is_open(ch) | slots_left(c), OUT_OF_TURN, 0);
-    let n = choose(becomes_first(c) & s.last(), NO_NUMBER_LEFT, n);
-    choose(!chain::good(c), BROKEN, n)
-}
-
-fn activated(c: Chain) -> Chain
-    requires { c.length < most_nodes }
-    ensures { result ≡ activated c }
-{
-    let places = c.places;
-    let ch = c.change;
-    let joined = chain::insert(places, join_place(c), join_id(ch));
-    with_members(c, c.length + 1, joined, becomes_first(c))
-}
-
-pub fn activate(c: Chain) -> Ruling
-    ensures { ChainGives c (activate_call c) result.number result.chain }
-{
-    let n = activate_turn(c);
-    if n == 0 {
-        return Ruling {
-            number: 0,
-            chain: activated(c),
-        };
-    }
-    Ruling {
-        number: n,
-        chain: c,
-    }
+        ..*c
+    };
+    Ok(())
 }
 
 // ---- cancel
 
-fn cancel_turn(c: Chain) -> u8
-    ensures { result ≡ first_number (test broken (not (chain_ok c)) ∷ test out_of_turn (not (is_open c.change)) ∷ []) }
+fn cancel_rows(c: Chain) -> Result<(), Refusal>
+    ensures { code result ≡ first_number (test broken (not (chain_ok c)) ∷ test out_of_turn (not (is_open c.change)) ∷ []) }
 {
-    let ch = c.change;
-    let n = choose(!is_open(ch), OUT_OF_TURN, 0);
-    choose(!chain::good(c), BROKEN, n)
+    wire::first_of([
+        (!chain::good(c), Refusal::Broken),
+        (!c.change.is_open(), Refusal::OutOfTurn),
+    ])
 }
 
-pub fn cancel(c: Chain) -> Ruling
-    ensures { ChainGives c (cancel_call c) result.number result.chain }
+pub fn cancel(c: &mut Chain) -> Result<(), Refusal>
+    ensures { ChainGives c.old (cancel_call c.old) (code result) c.new }
 {
-    let n = cancel_turn(c);
-    if n == 0 {
-        return Ruling {
-            number: 0,
-            chain: with_change(c, Change::Still),
-        };
-    }
-    Ruling {
-        number: n,
-        chain: c,
-    }
+    cancel_rows(*c)?;
+    c.change = Change::Still;
+    Ok(())
 }
 
 // ---- remove
 
-fn remove_turn(c: Chain, id: u16) -> u8
-    ensures { result ≡ first_number (test broken (not (chain_ok c)) ∷ remove_tests c id) }
+fn remove_rows(c: Chain, id: u16) -> Result<(), Refusal>
+    ensures { code result ≡ first_number (test broken (not (chain_ok c)) ∷ remove_tests c id) }
 {
-    let s = c.session;
-    let ch = c.change;
-    let n = choose(c.length == 1, ONLY_NODE, 0);
-    let n = choose(!chain::member(c, id), NOT_MEANT, n);
-    let n = choose(is_open(ch), CHANGE_OPEN, n);
-    let n = choose((id == chain::first(c)) & s.last(), NO_NUMBER_LEFT, n);
-    choose(!chain::good(c), BROKEN, n)
+    let first = id == chain::first(c);
+    wire::first_of([
+        (!chain::good(c), Refusal::Broken),
+        (first & c.session.last(), Refusal::NoNumberLeft),
+        (c.change.is_open(), Refusal::ChangeOpen),
+        (!chain::member(c, id), Refusal::NotMeant),
+        (c.length == 1, Refusal::OnlyNode),
+    ])
 }
 
-fn removed(c: Chain, id: u16) -> Chain
-    requires { 0 < c.length }
-    ensures { result ≡ removed c id }
+pub fn remove(c: &mut Chain, id: u16) -> Result<(), Refusal>
+    ensures { ChainGives c.old (remove_call c.old id) (code result) c.new }
 {
-    let places = c.places;
-    let left = chain::remove(places, chain::place(c, id));
-    with_members(c, c.length - 1, left, id == chain::first(c))
-}
-
-pub fn remove(c: Chain, id: u16) -> Ruling
-    ensures { ChainGives c (remove_call c id) result.number result.chain }
-{
-    let n = remove_turn(c, id);
-    if n == 0 {
-        return Ruling {
-            number: 0,
-            chain: removed(c, id),
-        };
-    }
-    Ruling {
-        number: n,
-        chain: c,
-    }
+    remove_rows(*c, id)?;
+    *c = Chain {
+        length: c.length - 1,
+        places: chain::remove(c.places, chain::place(*c, id)),
+        session: session_after(c.session, id == chain::first(*c)),
+        ..*c
+    };
+    Ok(())
 }

@@ -1,19 +1,15 @@
 -- `control::fence` meets its contract.
-use Rattle.std.proofs.Common.{ap, ◌∙◌}
+use Rattle.std.proofs.Common.{ap, rules}
 use Rattle.steps.specs.Chain.{with_change}
-use Rattle.control.proofs.Tables.{fence_done, fence_refused}
+use Rattle.control.proofs.Tables.{mapped_marked, fence_done, fence_refused}
 use Rattle.control.proofs.fence.Goals as goal
 
-pub returns-then-n-eq0 : goal.returns-then-n-eq0
-returns-then-n-eq0 c =
-    let s = c.args in
-    fence_done s.c s.table.now
-    c.fence_number-n.ensures
-    c.if-n-eq0.true
-    (c.with_change.ensures ∙ ap (with_change s.c) c.marked.ensures)
-    c.set_fence.ensures
+pub returns-in_err-fence_rows : goal.returns-in_err-fence_rows
+returns-in_err-fence_rows c = fence_refused _ c.args.c.now c.args.table.now c.in_err-fence_rows.ensures (search rules)
 
 pub returns : goal.returns
 returns c =
-    let s = c.args in
-    fence_refused s.c s.table.now c.fence_number-n.ensures c.if-n-eq0.false
+    let r = c.args.c.now in
+    fence_done r c.args.table.now c.in_ok-fence_rows.ensures
+    (ap (with_change r) (mapped_marked r.change (λ j k p. search rules) c.map_joining-c.ensures))
+    c.set_fence.ensures

@@ -1,21 +1,20 @@
 -- `record::cancel` meets its contract.
-use Rattle.std.proofs.Common.{[], ◌∷◌, not, refl}
-use Rattle.wire.specs.Numbers.{test, broken, out_of_turn}
-use Rattle.steps.specs.Chain.{chain_ok, is_open, with_change}
+use Rattle.std.proofs.Common.{[], ◌∷◌, not, refl, rules}
+use Rattle.wire.specs.Numbers.{test, out_of_turn}
+use Rattle.steps.specs.Chain.{is_open, with_change}
 use Rattle.steps.specs.declared.Change.TheVariants.{Still}
 use Rattle.steps.specs.Control.{cancel_call, cancel_step}
-use Rattle.record.proofs.Laws.{chain_done, chain_refused}
+use Rattle.record.proofs.Laws.{done, refused}
 use Rattle.record.proofs.cancel.Goals as goal
 
-pub returns-then-n-eq0 : goal.returns-then-n-eq0
+pub returns-in_err-cancel_rows : goal.returns-in_err-cancel_rows
 unfolding cancel_call cancel_step
-returns-then-n-eq0 c =
-    let s = c.args in
-    chain_done s.c (with_change s.c Still) (test broken (not (chain_ok s.c)) ∷ test out_of_turn (not (is_open s.c.change)) ∷ []) refl
-    c.cancel_turn-n.ensures c.if-n-eq0.true c.with_change.ensures
+returns-in_err-cancel_rows c =
+    let r = c.args.c.now in
+    refused _ r (with_change r Still) (test out_of_turn (not (is_open r.change)) ∷ []) c.in_err-cancel_rows.ensures (search rules)
 
 pub returns : goal.returns
 unfolding cancel_call cancel_step
 returns c =
-    let s = c.args in
-    chain_refused s.c (with_change s.c Still) (test broken (not (chain_ok s.c)) ∷ test out_of_turn (not (is_open s.c.change)) ∷ []) c.cancel_turn-n.ensures c.if-n-eq0.false
+    let r = c.args.c.now in
+    done r (with_change r Still) (test out_of_turn (not (is_open r.change)) ∷ []) refl c.in_ok-cancel_rows.ensures refl

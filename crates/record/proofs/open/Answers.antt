@@ -1,21 +1,25 @@
 -- `record::open` meets its contract.
-use Rattle.std.proofs.Common.{◌∷◌, not, refl}
-use Rattle.wire.specs.Numbers.{test, broken}
-use Rattle.steps.specs.Chain.{chain_ok}
-use Rattle.steps.specs.Control.{opened, open_tests, open_call, open_step}
-use Rattle.record.proofs.Laws.{chain_done, chain_refused}
+use Rattle.std.proofs.Common.{Bool, false, refl, sym, ap, ◌∙◌, rules}
+use Rattle.steps.specs.Chain.{joining}
+use Rattle.steps.specs.Control.{change_for, opened, open_tests, open_call, open_step}
+use Rattle.record.proofs.Laws.{done, refused, opens}
 use Rattle.record.proofs.open.Goals as goal
+use Rattle.record.proofs.open.Goals.{then-after, else-after}
 
-pub returns-then-n-eq0 : goal.returns-then-n-eq0
+pub returns-in_err-open_rows : goal.returns-in_err-open_rows
 unfolding open_call open_step
-returns-then-n-eq0 c =
+returns-in_err-open_rows c =
     let s = c.args in
-    chain_done s.c (opened s.c s.after s.named s.fresh) (test broken (not (chain_ok s.c)) ∷ open_tests s.c s.after s.named s.fresh) refl
-    c.open_turn-n.ensures c.if-n-eq0.true c.opened.ensures
+    refused _ s.c.now (opened s.c.now s.after s.named s.fresh) (open_tests s.c.now s.after s.named s.fresh) c.in_err-open_rows.ensures (search rules)
 
 pub returns : goal.returns
 unfolding open_call open_step
 returns c =
     let s = c.args in
-    chain_refused s.c (opened s.c s.after s.named s.fresh) (test broken (not (chain_ok s.c)) ∷ open_tests s.c s.after s.named s.fresh)
-    c.open_turn-n.ensures c.if-n-eq0.false
+    let change = λ (b : Bool). change_for b (joining s.named s.fresh false 0) in
+    done s.c.now (opened s.c.now s.after s.named s.fresh) (open_tests s.c.now s.after s.named s.fresh) refl c.in_ok-open_rows.ensures
+    (opens s.c.now s.after s.named s.fresh c.next-c.ensures
+    (elim c.if-after.branch [
+      | then-after w ↦ w.c-is ∙ sym (ap change w.if-after.true)
+      | else-after w ↦ w.c-is ∙ sym (ap change w.if-after.false)
+    ]))
