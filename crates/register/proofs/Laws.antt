@@ -10,7 +10,6 @@ use borrow.Author.Tests.{eq-eqb, ne_eqb}
 use Rattle.wire.specs.Numbers.{Out, refuse, ok, number_of, left, Case, Judged, broken, pick}
 use Rattle.wire.proofs.Numbers.{refuse_ok, pick_true, pick_false, and_both, reflects_cases}
 use Rattle.steps.specs.declared.Chain.{Chain}
-use Rattle.steps.specs.declared.Ruling.{Ruling}
 use Rattle.steps.specs.Chain.{chain_ok}
 use Rattle.steps.specs.Control.{ChainGives}
 use Rattle.steps.proofs.NodeGives.{done_at_0}
@@ -66,19 +65,19 @@ module _ {A : Type 0} {l : List ℕ} {c : Chain} {f : Chain → Out A} (on : OnN
 -- ---- the numbers that are given back
 
 -- of a step that gives a record where it is done, and is done only where there is room
-pub settle_leaves : {l l' : List ℕ} {n : ℕ} {r : Ruling} (cs : List Case) (o : Out Chain) → Judged cs o → ◌≡◌ {A = ℕ} r.number (number_of o)
-    → ((a : Chain) → o ≡ ok a → (r.chain ≡ a) × (length l ≡ record_size)) → Settles l r n l' → Leaves number_of numbers_of o n l l'
-settle_leaves {l} {l'} {n} {r} cs o j e d s = record { number = s.number ∙ e; lent = s.numbers ∙ go o refl }
+pub settle_leaves : {l l' : List ℕ} {n g : ℕ} {r : Chain} (cs : List Case) (o : Out Chain) → Judged cs o → ◌≡◌ {A = ℕ} g (number_of o)
+    → ((a : Chain) → o ≡ ok a → (r ≡ a) × (length l ≡ record_size)) → Settles l g r n l' → Leaves number_of numbers_of o n l l'
+settle_leaves {l} {l'} {n} {g} {r} cs o j e d s = record { number = s.number ∙ e; lent = s.numbers ∙ go o refl }
   where
-    go : (p : Out Chain) → o ≡ p → pick (eqb r.number 0 && eqb (length l) record_size) (numbers_of r.chain) l ≡ left l numbers_of p
-    go (refuse m) q = pick_false _ _ _ (ap (◌&& eqb (length l) record_size) (ne_eqb r.number 0 (λ z. refuse_ok (sym q ∙ (done_at_0 cs o j (sym e ∙ z)).1))))
+    go : (p : Out Chain) → o ≡ p → pick (eqb g 0 && eqb (length l) record_size) (numbers_of r) l ≡ left l numbers_of p
+    go (refuse m) q = pick_false _ _ _ (ap (◌&& eqb (length l) record_size) (ne_eqb g 0 (λ z. refuse_ok (sym q ∙ (done_at_0 cs o j (sym e ∙ z)).1))))
     go (ok a) q =
-        pick_true _ _ _ (and_both _ _ (eq-eqb r.number 0 (e ∙ ap number_of q)) (eq-eqb (length l) record_size (d a q).1))
+        pick_true _ _ _ (and_both _ _ (eq-eqb g 0 (e ∙ ap number_of q)) (eq-eqb (length l) record_size (d a q).1))
         ∙ ap numbers_of (d a q).0
 
 -- of a step on the record alone
-pub chain_leaves : {l l' : List ℕ} {n : ℕ} {c : Chain} {r : Ruling} {f : Chain → Out Chain} → OnNumbers l c f → (cs : List Case) → Judged cs (f c)
-    → ChainGives c (f c) r.number r.chain → Settles l r n l' → Leaves number_of numbers_of (and_then (record_of l) f) n l l'
+pub chain_leaves : {l l' : List ℕ} {n g : ℕ} {c r : Chain} {f : Chain → Out Chain} → OnNumbers l c f → (cs : List Case) → Judged cs (f c)
+    → ChainGives c (f c) g r → Settles l g r n l' → Leaves number_of numbers_of (and_then (record_of l) f) n l l'
 chain_leaves {c = c} {f = f} on cs j g s =
     let h = settle_leaves cs (f c) j g.number (λ a e. (g.chain ∙ ap (left c (λ x. x)) e, (stands on e).size)) s in
     on_leaves on h.number h.lent
@@ -97,8 +96,8 @@ both {A} {S} {T} {make = make} {other} {s = s} {s'} {t} {t'} o h e = record { nu
 pub leaves_is : {A S : Type 0} {code : Out A → ℕ} {make : A → S} {o p : Out A} {n : ℕ} {s s' : S} → o ≡ p → Leaves code make o n s s' → Leaves code make p n s s'
 leaves_is {code} {make} {s} e h = record { number = h.number ∙ ap code e; lent = h.lent ∙ ap (left s make) e }
 
-pub refused : {A S : Type 0} {make : A → S} {o : Out A} {m : ℕ} {s : S} → o ≡ refuse m → Leaves number_of make o m s s
-refused e = record { number = sym (ap number_of e); lent = sym (ap (left _ _) e) }
+pub refused : {A S : Type 0} {make : A → S} {o : Out A} {m n : ℕ} {s : S} → o ≡ refuse m → n ≡ m → Leaves number_of make o n s s
+refused e f = record { number = f ∙ sym (ap number_of e); lent = sym (ap (left _ _) e) }
 
 pub done : {A S : Type 0} {make : A → S} {o : Out A} {a : A} {s s' : S} → o ≡ ok a → s' ≡ make a → Leaves number_of make o 0 s s'
 done e f = record { number = sym (ap number_of e); lent = f ∙ sym (ap (left _ _) e) }

@@ -3,24 +3,21 @@ use Prim.Native.Nat.{ℕ, ◌≤◌}
 use mathlib.Core.Path.{◌≡◌, refl, sym, ap, ◌∙◌}
 use mathlib.Core.List.{List}
 use mathlib.Core.Logic.{◌⊎◌, inl, inr}
-use native.Mathlib.Omega.{arith}
 use mathlib.Core.Bool.{Bool, true, false, ◌||◌, not}
 use lib.ListN.{length}
 use lib.Dec.{ltb, eqb}
 use borrow.Author.Tests.{eqb-true, eq-eqb, ne_eqb, ltb-false, not-false}
-use Rattle.wire.specs.Numbers.{Out, refuse, ok, guard, number_of, left, broken, small_outlet, malformed}
-use Rattle.wire.specs.Packet.{packet, packet_ok, head_ok, outlet_size, read_call, reading_of, write_call, writing_number, sent_in, WriteGives}
+use Rattle.std.specs.Prelude.{Result}
+use Rattle.wire.specs.Numbers.{Out, refuse, ok, said, code, guard, number_of, left, broken, small_outlet, malformed}
+use Rattle.wire.specs.Packet.{packet, packet_ok, head_ok, outlet_size, read_call, write_call, sent_in, WriteGives}
 use Rattle.wire.specs.declared.Head.{Head}
-use Rattle.wire.specs.declared.Reading.TheVariants.{Fields, Unread}
-use Rattle.wire.specs.declared.Writing.{Writing}
-use Rattle.wire.proofs.Numbers.{pick_true, ok_inj, past, stop_guard, pass_guard, or_left, or_false, reflects_yes, reflects_no, reflects_cases}
-use Rattle.wire.proofs.Packet.{writing_number_lem}
+use Rattle.wire.specs.declared.Refusal.{Refusal}
+use Rattle.wire.proofs.Numbers.{pick_true, ok_inj, stop_guard, pass_guard, or_left, or_false, reflects_yes, reflects_no, reflects_cases}
+use Rattle.wire.proofs.Answers.{code_said, done_number}
 use Rattle.store.specs.Table.{table_ok, fence_bytes}
 use Rattle.steps.specs.declared.Chain.{Chain}
-use Rattle.steps.specs.declared.Ruling.{Ruling}
-use Rattle.steps.specs.Relay.{Outcome}
-use Rattle.steps.specs.Relay.{relay_call, RelayGives}
-use Rattle.steps.specs.Chain.{most_nodes, chain_ok, start_chain, start_call}
+use Rattle.steps.specs.Relay.{Outcome, relay_call, RelayGives}
+use Rattle.steps.specs.Chain.{most_nodes, chain_ok, start_call}
 use Rattle.steps.specs.Control.{ChainGives, open_call, open_rows, fence_call, fence_rows, FenceGives, copy_call, copy_rows, copy_bytes, CopyGives, activate_call, activate_rows, cancel_call, cancel_rows, remove_call, remove_rows, enter_call, EnterGives}
 use Rattle.steps.proofs.Control.{open_judged, fence_judged, copy_judged, activate_judged, cancel_judged, remove_judged}
 use Rattle.numbers.specs.Record.{record_size, places_of, kind_before, kind_after, record_or, Settles}
@@ -45,27 +42,27 @@ relay_leaves l made g e = on_leaves (record { made = made; none = stop_guard _ _
 
 -- ---- the controller steps
 
-module _ {l l' : List ℕ} {n : ℕ} {c : Chain} {r : Ruling} (made : c ≡ record_or l) (s : Settles l r n l') where
+module _ {l l' : List ℕ} {n g : ℕ} {c r : Chain} (made : c ≡ record_or l) (s : Settles l g r n l') where
   pub open_leaves : (kind named fresh : ℕ) → (eqb kind kind_before || eqb kind kind_after) ≡ true
-      → ChainGives c (open_call c (eqb kind kind_after) named fresh) r.number r.chain → OpenLeaves l kind named fresh n l'
+      → ChainGives c (open_call c (eqb kind kind_after) named fresh) g r → OpenLeaves l kind named fresh n l'
   unfolding open_numbers open_call
   open_leaves kind named fresh k g =
       leaves_is (sym (pass_guard _ _ _ (ap not k)))
       (chain_leaves (record { made = made; none = stop_guard _ _ _ none_breaks }) (open_rows c (eqb kind kind_after) named fresh) (open_judged c (eqb kind kind_after) named fresh) g s)
 
-  pub activate_leaves : ChainGives c (activate_call c) r.number r.chain → ActivateLeaves l n l'
+  pub activate_leaves : ChainGives c (activate_call c) g r → ActivateLeaves l n l'
   unfolding activate_numbers activate_call
   activate_leaves g = chain_leaves (record { made = made; none = stop_guard _ _ _ none_breaks }) (activate_rows c) (activate_judged c) g s
 
-  pub cancel_leaves : ChainGives c (cancel_call c) r.number r.chain → CancelLeaves l n l'
+  pub cancel_leaves : ChainGives c (cancel_call c) g r → CancelLeaves l n l'
   unfolding cancel_numbers cancel_call
   cancel_leaves g = chain_leaves (record { made = made; none = stop_guard _ _ _ none_breaks }) (cancel_rows c) (cancel_judged c) g s
 
-  pub remove_leaves : (id : ℕ) → ChainGives c (remove_call c id) r.number r.chain → RemoveLeaves l id n l'
+  pub remove_leaves : (id : ℕ) → ChainGives c (remove_call c id) g r → RemoveLeaves l id n l'
   unfolding remove_numbers remove_call
   remove_leaves id g = chain_leaves (record { made = made; none = stop_guard _ _ _ none_breaks }) (remove_rows c id) (remove_judged c id) g s
 
-  pub fence_leaves_lem : {t t' : List ℕ} → FenceGives c t r.number r.chain t' → FenceLeaves l t n l' t'
+  pub fence_leaves_lem : {t t' : List ℕ} → FenceGives c t g r t' → FenceLeaves l t n l' t'
   unfolding fence_numbers fence_call
   fence_leaves_lem {t} g =
       both (fence_numbers l t) (chain_leaves on (fence_rows c t) (fence_judged c t) (record { number = g.number; chain = g.chain }) s)
@@ -74,7 +71,7 @@ module _ {l l' : List ℕ} {n : ℕ} {c : Chain} {r : Ruling} (made : c ≡ reco
       on : OnNumbers l c (λ x. fence_call x t)
       on = record { made = made; none = stop_guard _ _ _ (or_left _ _ none_breaks) }
 
-  pub copy_leaves_lem : {i : ℕ} {named fresh fresh' : List ℕ} → CopyGives c i named fresh r.number r.chain fresh' → CopyLeaves l i named fresh n l' fresh'
+  pub copy_leaves_lem : {i : ℕ} {named fresh fresh' : List ℕ} → CopyGives c i named fresh g r fresh' → CopyLeaves l i named fresh n l' fresh'
   unfolding copy_numbers copy_call
   copy_leaves_lem {i} {named} {fresh} g =
       both (copy_numbers l i named fresh)
@@ -84,13 +81,13 @@ module _ {l l' : List ℕ} {n : ℕ} {c : Chain} {r : Ruling} (made : c ≡ reco
       on : OnNumbers l c (λ x. copy_call x i named fresh)
       on = record { made = made; none = stop_guard _ _ _ (or_left _ _ none_breaks) }
 
-pub open_refused : (l : List ℕ) (kind named fresh : ℕ) → (eqb kind kind_before || eqb kind kind_after) ≡ false → OpenLeaves l kind named fresh broken l
+pub open_refused : (l : List ℕ) (kind named fresh : ℕ) {n : ℕ} → (eqb kind kind_before || eqb kind kind_after) ≡ false → n ≡ broken → OpenLeaves l kind named fresh n l
 unfolding open_numbers
 open_refused l kind named fresh k = refused (stop_guard _ _ _ (ap not k))
 
-pub enter_leaves_lem : (l : List ℕ) {c : Chain} {t t' key : List ℕ} {id n : ℕ} → c ≡ record_or l → EnterGives c t id key n t' → EnterLeaves l t id key n t'
+pub enter_leaves_lem : (l : List ℕ) {c : Chain} {t t' key : List ℕ} {id m n : ℕ} → c ≡ record_or l → ◌≡◌ {A = ℕ} m n → EnterGives c t id key n t' → EnterLeaves l t id key m t'
 unfolding enter_numbers enter_call
-enter_leaves_lem l made g = on_leaves (record { made = made; none = stop_guard _ _ _ (or_left _ _ none_breaks) }) g.number g.table
+enter_leaves_lem l made e g = on_leaves (record { made = made; none = stop_guard _ _ _ (or_left _ _ none_breaks) }) (e ∙ g.number) g.table
 
 -- ---- a starting record
 
@@ -99,7 +96,7 @@ module _ (l ids : List ℕ) (count : ℕ) where
   abbrev wrong : Bool
   wrong = not (eqb (length l) record_size) || ltb most_nodes (length ids)
 
-  pub start_refused : wrong ≡ true → StartLeaves l ids count broken l
+  pub start_refused : {n : ℕ} → wrong ≡ true → n ≡ broken → StartLeaves l ids count n l
   unfolding start_numbers
   start_refused w = refused (stop_guard _ _ _ (or_assoc (not (eqb (length l) record_size)) (ltb most_nodes (length ids)) _ ∙ or_left wrong _ w))
 
@@ -108,20 +105,19 @@ module _ (l ids : List ℕ) (count : ℕ) where
   unfolding start_numbers start_call
   started w = ap (λ (b : Bool). guard b broken (ok (start_of ids count))) (sym (or_assoc (not (eqb (length l) record_size)) (ltb most_nodes (length ids)) _ ∙ ap (◌|| not (chain_ok (start_of ids count))) w))
 
-  start_is : {a : Chain} → start_numbers l ids count ≡ ok a → start_of ids count ≡ a
-  unfolding start_numbers
-  start_is e = ok_inj (past _ _ _ _ e).1
+  -- what the code makes of the ids
+  made : {places : List ℕ} {o : Out Chain} → wrong ≡ false → places ≡ places_of ids → o ≡ start_call (length ids) places count → start_numbers l ids count ≡ o
+  made w p e = sym (started w) ∙ ap (λ (x : List ℕ). start_call (length ids) x count) (sym p) ∙ sym e
 
-  pub start_leaves : {l' places : List ℕ} {n : ℕ} {r : Ruling} → wrong ≡ false → places ≡ places_of ids → ◌≡◌ {A = ℕ} r.number (number_of (start_call (length ids) places count))
-      → r.chain ≡ start_chain (length ids) places count → Settles l r n l' → StartLeaves l ids count n l'
-  start_leaves w p e f s =
-      settle_leaves (start_numbers_rows l ids count) (start_numbers l ids count) (start_numbers_lem l ids count)
-      (e ∙ ap (λ (x : List ℕ). number_of (start_call (length ids) x count)) p ∙ ap number_of (started w))
-      (λ a o. (
-        f ∙ ap (λ (x : List ℕ). start_chain (length ids) x count) p ∙ start_is o,
-        eqb-true (length l) record_size (not-false _ (or_false (not (eqb (length l) record_size)) (ltb most_nodes (length ids)) w).0),
-      ))
+  pub start_leaves : {l' places : List ℕ} {n : ℕ} {r : Chain} → wrong ≡ false → places ≡ places_of ids → ok r ≡ start_call (length ids) places count → Settles l 0 r n l' → StartLeaves l ids count n l'
+  start_leaves w p e s =
+      let is = made w p e in
+      settle_leaves (start_numbers_rows l ids count) (start_numbers l ids count) (start_numbers_lem l ids count) (sym (ap number_of is))
+      (λ a q. (ok_inj (sym is ∙ q), eqb-true (length l) record_size (not-false _ (or_false (not (eqb (length l) record_size)) (ltb most_nodes (length ids)) w).0)))
       s
+
+  pub start_broken : {places : List ℕ} {m n : ℕ} → wrong ≡ false → places ≡ places_of ids → refuse m ≡ start_call (length ids) places count → n ≡ m → StartLeaves l ids count n l
+  start_broken w p e = refused (made w p e)
 
   -- the ids are few enough for the length's 8 bits
   pub start_short : wrong ≡ false → length ids ≤ most_nodes
@@ -129,16 +125,8 @@ module _ (l ids : List ℕ) (count : ℕ) where
 
 -- ---- packets
 
-reading_ok : (o : Out Head) (h : Head) → reading_of o ≡ Fields h → o ≡ ok h
-reading_ok (refuse n) h e = absurd (let z : ◌≡◌ {A = ℕ} 0 1 = cc in omega arith)
-reading_ok (ok x) h e = let f : x ≡ h = cc in ap ok f
-
-reading_refused : (o : Out Head) (n : ℕ) → reading_of o ≡ Unread n → o ≡ refuse n
-reading_refused (refuse m) n e = let f : m ≡ n = cc in ap refuse f
-reading_refused (ok x) n e = absurd (let z : ◌≡◌ {A = ℕ} 0 1 = cc in omega arith)
-
 module _ (p f : List ℕ) where
-  pub read_small : (length f ≡ fields_size → ⊥) → ReadLeaves p f small_outlet f
+  pub read_small : {n : ℕ} → (length f ≡ fields_size → ⊥) → n ≡ small_outlet → ReadLeaves p f n f
   unfolding read_numbers
   read_small n = refused (stop_guard _ _ _ (ap not (ne_eqb (length f) fields_size n)))
 
@@ -147,12 +135,12 @@ module _ (p f : List ℕ) where
     unfolding read_numbers
     roomy = pass_guard _ _ _ (ap not (eq-eqb (length f) fields_size size))
 
-    pub read_leaves : {h : Head} {f' : List ℕ} → reading_of (read_call p) ≡ Fields h → f' ≡ fields_given f h → ReadLeaves p f 0 f'
+    pub read_leaves : {h : Head} {f' : List ℕ} → read_call p ≡ ok h → f' ≡ fields_given f h → ReadLeaves p f 0 f'
     unfolding fields_given
-    read_leaves {h} e g = done (roomy ∙ reading_ok (read_call p) h e) (g ∙ pick_true _ _ _ (eq-eqb (length f) fields_size size))
+    read_leaves {h} e g = done (roomy ∙ e) (g ∙ pick_true _ _ _ (eq-eqb (length f) fields_size size))
 
-    pub read_refused : {n : ℕ} → reading_of (read_call p) ≡ Unread n → ReadLeaves p f n f
-    read_refused {n} e = refused (roomy ∙ reading_refused (read_call p) n e)
+    pub read_refused : {m n : ℕ} → read_call p ≡ refuse m → n ≡ m → ReadLeaves p f n f
+    read_refused e = refused (roomy ∙ e)
 
 no_packet_lem : (key value : List ℕ) → not (packet_ok (packet no_head key value)) ≡ true
 unfolding packet_ok head_ok
@@ -175,11 +163,11 @@ module _ (out f key value : List ℕ) where
           ∙ ap (guard (ltb (length out) outlet_size) small_outlet)
           (stop_guard _ _ _ (no_packet_lem key value) ∙ sym (stop_guard _ _ _ (or_left _ _ (ap not (reflects_no (reflect_fields f) n)))))
 
-  pub write_leaves : {h : Head} {w : Writing} {n : ℕ} {out' : List ℕ} → h ≡ head_or f → WriteGives out (packet h key value) w out' → n ≡ writing_number w → WriteLeaves out f key value n out'
-  write_leaves {h} e g m =
+  pub write_leaves : (w : Result (Unit {0}) Refusal) {h : Head} {n : ℕ} {out' : List ℕ} → h ≡ head_or f → WriteGives out (packet h key value) (said w) out' → n ≡ code w → WriteLeaves out f key value n out'
+  write_leaves w {h} e g m =
       let o = ap (λ (x : Head). write_call out (packet x key value)) e ∙ write_is in
       record {
-        number = m ∙ ap writing_number g.answer ∙ writing_number_lem (write_call out (packet h key value)) ∙ ap number_of o;
+        number = m ∙ code_said w ∙ ap number_of g.answer ∙ done_number (write_call out (packet h key value)) ∙ ap number_of o;
         lent = g.outlet ∙ ap (left out (sent_in out)) o;
       }
 

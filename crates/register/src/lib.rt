@@ -2,14 +2,17 @@
 #![tactic(auto)]
 
 ghost use Rattle.std.specs.Prelude.{◌≡◌};
+ghost use Rattle.std.specs.Fn.{FnOnceReturnsAtMut};
 ghost use Rattle.wire.specs.Numbers.{number_of};
+ghost use Rattle.register.specs.Rulings.{Ruled};
 ghost use Rattle.store.specs.Table.{BlankGives};
 ghost use Rattle.steps.specs.Node.{NodeGives};
 ghost use Rattle.register.specs.Boundary.{RelayLeaves, OpenLeaves, FenceLeaves, CopyLeaves, ActivateLeaves, CancelLeaves, RemoveLeaves, EnterLeaves, StartLeaves, ReadLeaves, WriteLeaves, good_call, find_number};
 
 use chain::MOST_NODES;
 use numbers::{FIELDS_SIZE, RECORD_SIZE};
-use wire::{BROKEN, Reading, SMALL_OUTLET};
+use steps::Chain;
+use wire::Refusal;
 
 // ---- the node step
 
@@ -17,7 +20,7 @@ use wire::{BROKEN, Reading, SMALL_OUTLET};
 pub fn register_node_step(table: &mut [u8], packet: &[u8], outlet: &mut [u8]) -> u8
     ensures { NodeGives table.old packet.now outlet.old result table.new outlet.new }
 {
-    node::step(table, packet, outlet)
+    wire::number(node::step(table, packet, outlet))
 }
 
 // ---- the relay step
@@ -31,56 +34,64 @@ pub fn register_relay_step(rec: &[u32], packet: &[u8], outlet: &mut [u8]) -> u32
 
 // ---- the controller steps: the record as numbers, and the tables
 
+// A step on the record alone: the numbers are those of the record that it leaves, or stay.
+fn ruled<F: FnOnce(&mut Chain) -> Result<(), Refusal>>(rec: &mut [u32], step: F) -> u8
+    requires { F.IsAlwaysCallable step }
+    ensures { Ruled (FnOnceReturnsAtMut F.FnOnce step) rec.old result rec.new }
+{
+    let mut c = numbers::record_of(rec);
+    let done = step(&mut c);
+    numbers::settle(rec, done, c)
+}
+
 // The kind is 1 before, 2 after.
 pub fn register_open(rec: &mut [u32], kind: u8, named: u16, fresh: u16) -> u8
     ensures { OpenLeaves rec.old kind named fresh result rec.new }
 {
     if (kind == 1) | (kind == 2) {
-        let r = record::open(numbers::record_of(rec), kind == 2, named, fresh);
-        return numbers::settle(rec, r);
+        return ruled(rec, |c| record::open(c, kind == 2, named, fresh));
     }
-    BROKEN
+    u8::from(Refusal::Broken)
 }
 
 pub fn register_fence(rec: &mut [u32], table: &mut [u8]) -> u8
     ensures { FenceLeaves rec.old table.old result rec.new table.new }
 {
-    let r = control::fence(numbers::record_of(rec), table);
-    numbers::settle(rec, r)
+    let mut c = numbers::record_of(rec);
+    let done = control::fence(&mut c, table);
+    numbers::settle(rec, done, c)
 }
 
 pub fn register_copy(rec: &mut [u32], slot: u16, named: &[u8], fresh: &mut [u8]) -> u8
     ensures { CopyLeaves rec.old slot named.now fresh.old result rec.new fresh.new }
 {
-    let r = control::copy(numbers::record_of(rec), slot, named, fresh);
-    numbers::settle(rec, r)
+    let mut c = numbers::record_of(rec);
+    let done = control::copy(&mut c, slot, named, fresh);
+    numbers::settle(rec, done, c)
 }
 
 pub fn register_activate(rec: &mut [u32]) -> u8
     ensures { ActivateLeaves rec.old result rec.new }
 {
-    let r = record::activate(numbers::record_of(rec));
-    numbers::settle(rec, r)
+    ruled(rec, |c| record::activate(c))
 }
 
 pub fn register_cancel(rec: &mut [u32]) -> u8
     ensures { CancelLeaves rec.old result rec.new }
 {
-    let r = record::cancel(numbers::record_of(rec));
-    numbers::settle(rec, r)
+    ruled(rec, |c| record::cancel(c))
 }
 
 pub fn register_remove(rec: &mut [u32], id: u16) -> u8
     ensures { RemoveLeaves rec.old id result rec.new }
 {
-    let r = record::remove(numbers::record_of(rec), id);
-    numbers::settle(rec, r)
+    ruled(rec, |c| record::remove(c, id))
 }
 
 pub fn register_enter(rec: &[u32], table: &mut [u8], id: u16, key: &[u8; 16]) -> u8
     ensures { EnterLeaves rec.now table.old id key.now result table.new }
 {
-    control::enter(numbers::record_of(rec), table, id, key)
+    wire::number(control::enter(numbers::record_of(rec), table, id, key))
 }
 
 // ---- at the start
@@ -90,16 +101,18 @@ pub fn register_start(rec: &mut [u32], ids: &[u16], count: u16) -> u8
     ensures { StartLeaves rec.old ids.now count result rec.new }
 {
     if (rec.len() != RECORD_SIZE) | (MOST_NODES < ids.len()) {
-        return BROKEN;
+        return u8::from(Refusal::Broken);
     }
-    let r = chain::start(ids.len() as u8, numbers::places_of(ids), count);
-    numbers::settle(rec, r)
+    match chain::start(ids.len() as u8, numbers::places_of(ids), count) {
+        Ok(c) => numbers::settle(rec, Ok(()), c),
+        Err(r) => u8::from(r),
+    }
 }
 
 pub fn register_blank(table: &mut [u8], id: u16, count: u16) -> u8
     ensures { BlankGives table.old id count result table.new }
 {
-    table::blank(table, id, count)
+    wire::number(table::blank(table, id, count))
 }
 
 // ---- packets
@@ -108,21 +121,21 @@ pub fn register_packet_read(packet: &[u8], fields: &mut [u32]) -> u8
     ensures { ReadLeaves packet.now fields.old result fields.new }
 {
     if fields.len() != FIELDS_SIZE {
-        return SMALL_OUTLET;
+        return u8::from(Refusal::SmallOutlet);
     }
     match packet::read(packet) {
-        Reading::Fields(h) => {
+        Ok(h) => {
             numbers::give_fields(fields, h);
             0
         }
-        Reading::Unread(n) => n,
+        Err(r) => u8::from(r),
     }
 }
 
 pub fn register_packet_write(outlet: &mut [u8], fields: &[u32], key: &[u8], value: &[u8]) -> u8
     ensures { WriteLeaves outlet.old fields.now key.now value.now result outlet.new }
 {
-    numbers::written(packet::write(outlet, numbers::head_of(fields), key, value))
+    wire::number(packet::write(outlet, numbers::head_of(fields), key, value))
 }
 
 // ---- a table alone
@@ -131,7 +144,11 @@ pub fn register_packet_write(outlet: &mut [u8], fields: &[u32], key: &[u8], valu
 pub fn register_table_good(table: &[u8]) -> u8
     ensures { result ≡ number_of (good_call table.now) }
 {
-    if table::good(table) { 0 } else { BROKEN }
+    if table::good(table) {
+        0
+    } else {
+        u8::from(Refusal::Broken)
+    }
 }
 
 // The lowest used slot that has the key, or 65536; the table is not checked.

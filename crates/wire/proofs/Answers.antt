@@ -7,7 +7,7 @@ use lib.ListN.{get_or}
 use Rattle.std.specs.Prelude.{Result, Ok, Err}
 use Rattle.wire.specs.declared.Refusal.{Refusal}
 use Rattle.wire.specs.declared.Refusal.TheVariants.{Broken, SmallOutlet, Malformed, Misaddressed, Stranger, Stopped, BelowFence, Sessionless, KeyMissing, SessionOver, NoNumberLeft, NotNewer, ChangeOpen, OutOfTurn, NotMeant, IdUsed, ChainFull, OnlyNode, OtherCount, KeyThere, NoFreeSlot, FenceAbove}
-use Rattle.wire.specs.Numbers.{number_of, refusal_number, said, code}
+use Rattle.wire.specs.Numbers.{Out, refuse, ok, number_of, refusal_number, said, code, done}
 use Rattle.wire.proofs.Numbers.{ok_inj, refuse_inj, refuse_ok}
 
 -- no refusal has the number 0
@@ -70,6 +70,10 @@ refusal_once r s e = sym (named_number r) ∙ ap named e ∙ named_number s
 pub code_said : {A : Type 0} (r : Result A Refusal) → code r ≡ number_of (said r)
 code_said (Ok a) = refl
 code_said (Err r) = refl
+
+pub done_number : {A : Type 0} (o : Out A) → number_of (done o) ≡ number_of o
+done_number (refuse n) = refl
+done_number (ok a) = refl
 
 -- two answers that say the same are the same
 pub said_once : {A : Type 0} (r s : Result A Refusal) → said r ≡ said s → r ≡ s

@@ -3,4 +3,4 @@ use Rattle.register.proofs.Steps.{copy_leaves_lem}
 use Rattle.register.proofs.register_copy.Goals as goal
 
 pub returns : goal.returns
-returns c = copy_leaves_lem c.record_of.ensures c.settle.ensures c.copy-r.ensures
+returns c = copy_leaves_lem c.record_of-c.ensures c.settle.ensures c.copy-done.ensures

@@ -3,4 +3,4 @@ use Rattle.register.proofs.Steps.{enter_leaves_lem}
 use Rattle.register.proofs.register_enter.Goals as goal
 
 pub returns : goal.returns
-returns c = enter_leaves_lem _ c.record_of.ensures c.enter.ensures
+returns c = enter_leaves_lem _ c.record_of.ensures c.number.ensures c.enter.ensures

@@ -3,4 +3,4 @@ use Rattle.register.proofs.Steps.{fence_leaves_lem}
 use Rattle.register.proofs.register_fence.Goals as goal
 
 pub returns : goal.returns
-returns c = fence_leaves_lem c.record_of.ensures c.settle.ensures c.fence-r.ensures
+returns c = fence_leaves_lem c.record_of-c.ensures c.settle.ensures c.fence-done.ensures

@@ -4,10 +4,10 @@ use Rattle.register.proofs.Steps.{read_small, read_leaves, read_refused}
 use Rattle.register.proofs.register_packet_read.Goals as goal
 
 pub returns-then-fields-ne-FIELDS_SIZE : goal.returns-then-fields-ne-FIELDS_SIZE
-returns-then-fields-ne-FIELDS_SIZE c = read_small _ _ c.if-fields-ne-FIELDS_SIZE.true
+returns-then-fields-ne-FIELDS_SIZE c = read_small _ _ c.if-fields-ne-FIELDS_SIZE.true c.from.ensures
 
-pub returns-in-Fields : goal.returns-in-Fields
-returns-in-Fields c = read_leaves _ _ c.if-fields-ne-FIELDS_SIZE.false (sym c.in-Fields.ensures) c.give_fields.ensures
+pub returns-in-Ok : goal.returns-in-Ok
+returns-in-Ok c = read_leaves _ _ c.if-fields-ne-FIELDS_SIZE.false (sym c.in-Ok.ensures) c.give_fields.ensures
 
-pub returns-in-Unread : goal.returns-in-Unread
-returns-in-Unread c = read_refused _ _ c.if-fields-ne-FIELDS_SIZE.false (sym c.in-Unread.ensures)
+pub returns-in-Err : goal.returns-in-Err
+returns-in-Err c = read_refused _ _ c.if-fields-ne-FIELDS_SIZE.false (sym c.in-Err.ensures) c.from-in-Err.ensures

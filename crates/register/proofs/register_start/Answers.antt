@@ -1,13 +1,16 @@
 -- `register::register_start`: the record of these ids, where there is room for its numbers.
-use Rattle.register.proofs.Steps.{start_refused, start_short, start_leaves}
+use Rattle.register.proofs.Steps.{start_refused, start_short, start_leaves, start_broken}
 use native.Mathlib.Omega.{arith}
 use Rattle.register.proofs.register_start.Goals as goal
 
 pub returns-then-rec-ids : goal.returns-then-rec-ids
-returns-then-rec-ids c = start_refused _ _ _ c.if-rec-ids.true
+returns-then-rec-ids c = start_refused _ _ _ c.if-rec-ids.true c.from.ensures
 
 pub overflow_cast-ids : goal.overflow_cast-ids
 overflow_cast-ids c = let h = start_short c.args.rec.now c.args.ids.now 0 c.if-rec-ids.false in omega arith
 
-pub returns : goal.returns
-returns c = start_leaves _ _ _ c.if-rec-ids.false c.places_of.ensures c.start-r.ensures.number c.start-r.ensures.chain c.settle.ensures
+pub returns-in-Ok : goal.returns-in-Ok
+returns-in-Ok c = start_leaves _ _ _ c.if-rec-ids.false c.places_of.ensures c.in-Ok.ensures c.settle.ensures
+
+pub returns-in-Err : goal.returns-in-Err
+returns-in-Err c = start_broken _ _ _ c.if-rec-ids.false c.places_of.ensures c.in-Err.ensures c.from-in-Err.ensures

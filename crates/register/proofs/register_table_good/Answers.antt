@@ -7,4 +7,4 @@ pub returns-then-good : goal.returns-then-good
 returns-then-good c = sym (table_good _ (sym c.good.ensures ∙ c.if-good.true))
 
 pub returns-else-good : goal.returns-else-good
-returns-else-good c = sym (table_broken _ (sym c.good.ensures ∙ c.if-good.false))
+returns-else-good c = c.from.ensures ∙ sym (table_broken _ (sym c.good.ensures ∙ c.if-good.false))
