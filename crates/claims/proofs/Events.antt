@@ -13,12 +13,10 @@ use Rattle.wire.proofs.Numbers.{pick_true, pick_false, pick_case, past, ok_inj, 
 use Rattle.store.specs.Table.{most_slots, blank_bytes, blank_call, blank_rows, BlankGives}
 use Rattle.store.proofs.Blank.{blank_judged, length_blank}
 use Rattle.steps.specs.declared.Chain.{Chain}
-use Rattle.steps.specs.Relay.{Outcome}
-use Rattle.steps.specs.Chain.{start_chain, start_call, start_rows}
+use Rattle.steps.specs.Chain.{start_call}
 use Rattle.steps.specs.Node.{NodeGives}
-use Rattle.steps.specs.Relay.{outcome_of, outcome_number, packet_sent, relay_call, RelayGives}
+use Rattle.steps.specs.Relay.{Outcome, outcome_of, outcome_number, packet_sent, relay_call, RelayGives}
 use Rattle.steps.specs.Control.{ChainGives, FenceGives, CopyGives, EnterGives, open_step, open_call, open_rows, activate_call, cancel_call, remove_call}
-use Rattle.steps.proofs.ChainRules.{start_judged}
 use Rattle.steps.proofs.Control.{open_judged}
 use Rattle.steps.proofs.ControlViews.{on_record_lem, open_view}
 use Rattle.steps.proofs.NodeGives.{done_at_0}
@@ -115,13 +113,8 @@ enter_event {r} {t} {id} {key} {n} {t'} g = record {
 
 -- ---- the start
 
-pub start_event : {length : ℕ} {places : List ℕ} {count n : ℕ} {r : Chain} → ◌≡◌ {A = ℕ} n (number_of (start_call length places count)) → r ≡ start_chain length places count → StartEvent length places count n r
-unfolding start_call
-start_event {length} {places} {count} {n} {r} e q = record {
-  start = λ z.
-      let (c, is) = done_at_0 (start_rows length places count) (start_call length places count) (start_judged length places count) (sym e ∙ z) in
-      is ∙ (sym (past _ _ _ _ is).1 ∙ ap ok (sym q));
-}
+pub start_event : {length : ℕ} {places : List ℕ} {count : ℕ} {o : Out Chain} → o ≡ start_call length places count → StartEvent length places count o
+start_event e = record { start = λ r q. sym e ∙ q }
 
 pub blank_event : {t : List ℕ} {id count n : ℕ} {t' : List ℕ} → BlankGives t id count n t' → BlankEvent id count n t'
 unfolding blank_call

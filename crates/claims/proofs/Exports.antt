@@ -16,10 +16,9 @@ use Rattle.steps.specs.declared.Joining.{Joining}
 use Rattle.steps.specs.declared.Change.{Change}
 use Rattle.steps.specs.declared.Change.TheVariants.{Still, Before, After}
 use Rattle.steps.specs.declared.Chain.{Chain}
-use Rattle.steps.specs.Relay.{Outcome}
 use Rattle.steps.specs.declared.Destination.TheVariants.{ToNode, ToClient}
 use Rattle.steps.specs.Chain.{most_nodes, members, chain_ok, ChainRules, JoiningRules, ChangeRules, start_chain, start_call}
-use Rattle.steps.specs.Relay.{outcome_of, outcome_number, relay_call, RelayGives}
+use Rattle.steps.specs.Relay.{Outcome, outcome_of, outcome_number, relay_call, RelayGives}
 use Rattle.steps.specs.Control.{ChainGives, FenceGives, CopyGives, EnterGives, open_call, fence_call, copy_call, activate_call, cancel_call, remove_call, enter_call}
 use Rattle.steps.proofs.ChainPlaces.{length_members}
 use Rattle.steps.proofs.ChainRules.{reflect_chain}

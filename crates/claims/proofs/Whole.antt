@@ -14,10 +14,9 @@ use Rattle.store.specs.Table.{blank_call, blank_rows, BlankGives}
 use Rattle.store.specs.Held.{Content}
 use Rattle.store.proofs.Blank.{blank_judged, blank_once}
 use Rattle.steps.specs.declared.Chain.{Chain}
-use Rattle.steps.specs.Relay.{Outcome}
 use Rattle.steps.specs.Chain.{start_call, start_rows}
 use Rattle.steps.specs.Node.{node_call, node_rows, NodeGives}
-use Rattle.steps.specs.Relay.{relay_call, relay_rows, RelayGives}
+use Rattle.steps.specs.Relay.{Outcome, relay_call, relay_rows, RelayGives}
 use Rattle.steps.specs.Control.{open_call, open_rows, fence_call, fence_rows, copy_call, copy_rows, activate_call, activate_rows, cancel_call, cancel_rows, remove_call, remove_rows, enter_call, enter_rows, ChainGives, FenceGives, CopyGives, EnterGives}
 use Rattle.steps.specs.Marked.{examples, all_hold}
 use Rattle.steps.proofs.Marked.{marked}

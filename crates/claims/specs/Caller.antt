@@ -3,9 +3,8 @@
 use Rattle.std.specs.Prelude.{ℕ, ◌≡◌, List, Bool}
 use Rattle.store.specs.Table.{BlankGives}
 use Rattle.steps.specs.declared.Chain.{Chain}
-use Rattle.steps.specs.Relay.{Outcome}
 use Rattle.steps.specs.Node.{NodeGives}
-use Rattle.steps.specs.Relay.{RelayGives, outcome_number}
+use Rattle.steps.specs.Relay.{Outcome, RelayGives, outcome_number}
 use Rattle.steps.specs.Control.{ChainGives, FenceGives, CopyGives, EnterGives, open_call, activate_call, cancel_call, remove_call}
 use Rattle.claims.specs.Bytes.{asking, relaying, stepping, opening, fencing, copying, activating, cancelling, removing, entering, halting, StateB, after_relay, after_node, after_control, after_control_at, exec_b, EnabledB, StartB}
 

@@ -1,17 +1,16 @@
 -- What a public call does in the system over bytes: for every state that holds what the call was given, the event stores what the call left.
 use Rattle.std.specs.Prelude.{ℕ, ◌≡◌, List, Bool, eqb}
-use Rattle.wire.specs.Numbers.{ok, pick}
+use Rattle.wire.specs.Numbers.{Out, ok, pick}
 use Rattle.store.specs.Table.{blank_bytes}
 use Rattle.steps.specs.declared.Chain.{Chain}
-use Rattle.steps.specs.Relay.{Outcome}
 use Rattle.steps.specs.Chain.{start_call}
-use Rattle.steps.specs.Relay.{outcome_number}
+use Rattle.steps.specs.Relay.{Outcome, outcome_number}
 use Rattle.claims.specs.Bytes.{EventB, asking, relaying, stepping, opening, fencing, copying, entering, StateB, after_relay, after_node, after_control, after_control_at, exec_b}
 
--- ---- the start: after number 0 the record is one to start with, and the table one that a node starts with
+-- ---- the start: a record that is given is one to start with, and after number 0 the table one that a node starts with
 
-pub record StartEvent (length : ℕ) (places : List ℕ) (count n : ℕ) (r : Chain) : Type 0 where
-  pub start : n ≡ 0 → start_call length places count ≡ ok r
+pub record StartEvent (length : ℕ) (places : List ℕ) (count : ℕ) (o : Out Chain) : Type 0 where
+  pub start : (r : Chain) → o ≡ ok r → start_call length places count ≡ ok r
 
 pub record BlankEvent (id count n : ℕ) (t : List ℕ) : Type 0 where
   pub blank : n ≡ 0 → t ≡ blank_bytes id count

@@ -2,6 +2,7 @@
 use Rattle.std.specs.Prelude.{ℕ, ◌+◌, ◌<◌, ◌≤◌, ◌≡◌, false, ◌⊎◌, length, get_or}
 use mathlib.Core.List.{List, [], ◌∷◌, ◌++◌, Memᴰ as Mem}
 use Rattle.be.specs.Be.{Bytes}
+use Rattle.wire.specs.Numbers.{ok}
 use Rattle.wire.specs.Version.{zero_version, AtMost, Below, top_sequence}
 use Rattle.wire.specs.Packet.{packet_of, head_of, key_of, Formed, outlet_size, query, op_read, op_write, op_delete, answer_written}
 use Rattle.wire.specs.declared.Version.{Version}
@@ -9,10 +10,9 @@ use Rattle.store.specs.Table.{Slot, table_of, slot_of, row, count_of}
 use Rattle.store.specs.Held.{holds, held, Content, nothing, content_of}
 use Rattle.steps.specs.declared.Change.TheVariants.{Still}
 use Rattle.steps.specs.Chain.{members, first_of}
-use Rattle.steps.specs.Relay.{Outcome}
 use Rattle.steps.specs.declared.Destination.TheVariants.{ToNode, ToClient}
 use Rattle.steps.specs.Node.{Unnumbered}
-use Rattle.steps.specs.Relay.{outcome_of, relay_call}
+use Rattle.steps.specs.Relay.{Outcome, outcome_of, relay_call}
 use Rattle.protocol.specs.System.{carried}
 use Rattle.protocol.specs.Demand.{HoldsOrLater, wanted, ack_of, HoldsWrite}
 use Rattle.claims.specs.Bytes.{IsNode, asking, relaying, stepping, EntryB, StateB, holds_version, exec_b, EnabledB, RunB}
