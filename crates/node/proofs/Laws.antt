@@ -15,7 +15,7 @@ use Rattle.wire.specs.Packet.{Packet, packet, packet_of, key_of, value_of, well_
 use Rattle.wire.specs.declared.Head.{Head}
 use Rattle.wire.specs.declared.Version.{Version}
 use Rattle.wire.specs.declared.Stamp.{Stamp}
-use Rattle.wire.proofs.Numbers.{pass_guard, stop_guard, reflects_yes, reflects_no, reflect_not, reflect_eqb, pick_case, pick_false}
+use Rattle.wire.proofs.Numbers.{pass_guard, stop_guard, reflects_yes, reflect_not, reflect_eqb, pick_case, pick_false}
 use Rattle.wire.proofs.Packet.{reflect_formed, ReadView}
 use Rattle.wire.proofs.RoundTrip.{fit_packet}
 use Rattle.store.specs.Table.{Slot, Table, slot, slot_of, row_size, table_of, table_ok, TableRules, count_of, find, slots, whole_slots, free_slot, valued, deleted, set_row, write_bytes}
@@ -246,29 +246,16 @@ is_kept t p h (Value v i) n = refl
 is_kept t p h (NoValue v) n = refl
 is_kept t p h NoKey n = refl
 
--- ---- what the check of the table gave
-
-module _ {t : List ℕ} {b : Bool} (is : b ≡ table_ok t) where
-  pub keeps_rules : b ≡ true → TableRules t
-  keeps_rules e = (reflect_table t).0 (sym is ∙ e)
-
-  pub breaks_rules : b ≡ false → TableRules t → ⊥
-  breaks_rules e = (reflect_table t).1 (sym is ∙ e)
+-- ---- the promise
 
 -- what was read is well-formed
 pub formed_read : {p : List ℕ} {h : Head} → ReadView p h → well_formed p ≡ true
 formed_read {p} v = reflects_yes (reflect_formed p) v.formed
 
--- ---- the promise
-
--- row 1 does not apply
-whole : (t : List ℕ) → TableRules t → not (table_ok t) ≡ false
-whole t g = reflects_no (reflect_not (reflect_table t)) (λ n. n g)
-
 -- a packet that was read: the call comes to what the step does
-comes : (t p out : List ℕ) {h : Head} → TableRules t → outlet_size ≤ length out → ReadView p h → node_call t p out ≡ node_step (table_of t) (asked h p)
+comes : (t p out : List ℕ) {h : Head} → table_ok t ≡ true → outlet_size ≤ length out → ReadView p h → node_call t p out ≡ node_step (table_of t) (asked h p)
 unfolding packet_of
-comes t p out g room v = call_step t p out g room v.formed ∙ ap (λ (k : Head). node_step (table_of t) (asked k p)) (sym v.head)
+comes t p out g room v = call_step t p out (rules_of g) room v.formed ∙ ap (λ (k : Head). node_step (table_of t) (asked k p)) (sym v.head)
 
 module _ {t p out : List ℕ} where
   -- the promise, by what the call comes to
@@ -284,20 +271,20 @@ module _ {t p out : List ℕ} where
   refused : (n : ℕ) → node_call t p out ≡ refuse n → NodeGives t p out n t out
   refused n e = gives (refuse n) e refl refl refl
 
-  pub gives_broken : (TableRules t → ⊥) → NodeGives t p out broken t out
+  pub gives_broken : table_ok t ≡ false → NodeGives t p out broken t out
   unfolding node_call
-  gives_broken n = refused broken (stop_guard _ _ _ (reflects_yes (reflect_not (reflect_table t)) n))
+  gives_broken g = refused broken (stop_guard _ _ _ (ap not g))
 
-  module _ (g : TableRules t) where
+  module _ (g : table_ok t ≡ true) where
     pub gives_small : length out < outlet_size → NodeGives t p out small_outlet t out
     unfolding node_call
-    gives_small h = refused small_outlet (pass_guard _ _ _ (whole t g) ∙ stop_guard _ _ _ (lt-ltb _ _ h))
+    gives_small h = refused small_outlet (pass_guard _ _ _ (ap not g) ∙ stop_guard _ _ _ (lt-ltb _ _ h))
 
     module _ (room : outlet_size ≤ length out) where
       pub gives_malformed : {n : ℕ} → (n ≡ malformed) × (Formed p → ⊥) → NodeGives t p out n t out
       unfolding node_call
       gives_malformed {n} f =
-          refused n (pass_guard _ _ _ (whole t g) ∙ (pass_guard _ _ _ (le-ltb _ _ room) ∙ (stop_guard _ _ _ (reflects_yes (reflect_not (reflect_formed p)) f.1) ∙ ap refuse (sym f.0))))
+          refused n (pass_guard _ _ _ (ap not g) ∙ (pass_guard _ _ _ (le-ltb _ _ room) ∙ (stop_guard _ _ _ (reflects_yes (reflect_not (reflect_formed p)) f.1) ∙ ap refuse (sym f.0))))
 
       module _ {h : Head} (v : ReadView p h) where
         pub gives_refused : (n : ℕ) → node_step (table_of t) (asked h p) ≡ refuse n → NodeGives t p out n t out
