@@ -9,30 +9,29 @@ use lib.ListN.{length, get_or, get_or-eq_default, length-take, length-drop}
 use lib.Dec.{eqb}
 use borrow.Author.Tests.{lt-ltb, le-ltb, eq-eqb, ne_eqb}
 use Rattle.be.specs.Be.{Bytes}
-use Rattle.wire.specs.Numbers.{Out, refuse, ok, number_of, left, guard, pick, broken, small_outlet, malformed, misaddressed, below_fence, sessionless}
+use Rattle.wire.specs.Numbers.{Out, refuse, ok, number_of, left, guard, pick, broken, small_outlet, malformed, misaddressed, below_fence, sessionless, key_missing, session_over, no_number_left, not_newer}
 use Rattle.wire.specs.Version.{less_stamp, less_session, same_session, last_sequence, next_sequence, newer, session, sequence}
 use Rattle.wire.specs.Packet.{Packet, packet, packet_of, key_of, value_of, well_formed, Formed, Fit, sent_in, outlet_size, op_read, op_write, value_size, query}
 use Rattle.wire.specs.declared.Head.{Head}
 use Rattle.wire.specs.declared.Version.{Version}
-use Rattle.wire.specs.declared.Refusal.TheVariants.{KeyMissing, SessionOver, NoNumberLeft, NotNewer}
-use Rattle.wire.proofs.Numbers.{pass_guard, stop_guard, reflects_yes, reflects_no, reflect_not, reflect_eqb, pick_case, pick_false}
+use Rattle.wire.specs.declared.Stamp.{Stamp}
+use Rattle.wire.proofs.Numbers.{pass_guard, stop_guard, reflects_yes, reflect_not, reflect_eqb, pick_case, pick_false}
 use Rattle.wire.proofs.Packet.{reflect_formed, ReadView}
 use Rattle.wire.proofs.RoundTrip.{fit_packet}
 use Rattle.store.specs.Table.{Slot, Table, slot, slot_of, row_size, table_of, table_ok, TableRules, count_of, find, slots, whole_slots, free_slot, valued, deleted, set_row, write_bytes}
-use Rattle.std.specs.Prelude.{Option, Some, None, Ok, Err}
+use Rattle.std.specs.Prelude.{Option, Some, None, Ok}
 use Rattle.store.proofs.Rules.{reflect_table, length_table, whole_table, slots_table}
 use Rattle.store.proofs.Slot.{SlotFits}
-use Rattle.store.proofs.Find.{find_at}
 use Rattle.packet.specs.Emit.{emitted}
 use Rattle.packet.proofs.Laws.{emit_done}
-use Rattle.table.specs.Parts.{row_part, state_part, version_part, value_part, slot_stored}
-use Rattle.table.proofs.Tables.{state_table, version_table, value_table, store_table}
-use Rattle.steps.specs.Node.{Sent, reply, absent, answered, stored, taken, at_slot, given, version_for, is_read, node_step, node_call, NodeGives}
+use Rattle.table.specs.Parts.{fence_part, id_part, row_part, state_part, version_part, value_part, slot_stored}
+use Rattle.table.proofs.Tables.{id_table, fence_table_lem, state_table, version_table, value_table, store_table}
+use Rattle.steps.specs.Node.{Sent, Alters, reply, absent, answered, stored, taken, at_slot, given, version_for, is_read, is_numbered, node_step, node_call, NodeGives}
 use Rattle.steps.proofs.Node.{call_step}
 use Rattle.steps.proofs.NodeView.{node_view}
 use Rattle.steps.proofs.NodeSound.{Sound, sound_packet, sound_table}
 use Rattle.steps.proofs.NodeSends.{Writes, none, one, Sends as SoundSends, node_sends}
-use Rattle.node.specs.Ways.{answer_of, version_of, carried, sent_by, asked, behind, Settles, HasState, HasVersion, Comes}
+use Rattle.node.specs.Ways.{answer_of, version_of, carried, sent_by, outcome, asked, behind, Comes}
 use Rattle.node.specs.Queries.{table_asked, asked_by}
 use Rattle.node.specs.declared.Query.{Query}
 use Rattle.node.specs.declared.Reply.{Reply}
@@ -40,59 +39,59 @@ use Rattle.node.specs.declared.Reply.TheVariants.{Taken, Value, NoValue, NoKey}
 
 -- ---- a key that stands in slot i
 
-module _ (h : Head) (i : ℕ) (v : Version) where
+module _ (t : Table) (p : Packet) (i : ℕ) {v : Version} (is : (get_or t.slots i free_slot).version ≡ v) where
   -- a read
-  module _ (state : ℕ) (r : h.op ≡ op_read) where
-    pub value_way : state ≡ valued → Settles h (Some i) (Ok (Value v i)) (λ t. HasState i state t × HasVersion i v t)
+  module _ (r : is_read p ≡ true) {state : ℕ} (has : (get_or t.slots i free_slot).state ≡ state) where
+    pub value_way : state ≡ valued → behind t p (Some i) ≡ outcome t p (Ok (Value v i))
     unfolding guard pick at_slot answered sent_by
-    value_way e t k x is = rw (eq-eqb h.op op_read r, is.0, eq-eqb state valued e, is.1)
+    value_way e = rw (r, has, eq-eqb state valued e, is)
 
-    pub no_value_way : (state ≡ valued → ⊥) → Settles h (Some i) (Ok (NoValue v)) (λ t. HasState i state t × HasVersion i v t)
+    pub no_value_way : (state ≡ valued → ⊥) → behind t p (Some i) ≡ outcome t p (Ok (NoValue v))
     unfolding guard pick at_slot answered sent_by
-    no_value_way e t k x is = rw (eq-eqb h.op op_read r, is.0, ne_eqb state valued e, is.1)
+    no_value_way e = rw (r, has, ne_eqb state valued e, is)
 
-  module _ (a : h.op ≡ op_read → ⊥) where
+  module _ (a : Alters p) where
     -- a write or delete with a number
-    module _ (n : h.version.sequence.0 ≡ 0 → ⊥) where
-      pub older_way : newer h.version v ≡ false → Settles h (Some i) (Err NotNewer) (HasVersion i v)
+    module _ (n : p.head.version.sequence.0 ≡ 0 → ⊥) where
+      pub older_way : newer p.head.version v ≡ false → behind t p (Some i) ≡ refuse not_newer
       unfolding guard
-      older_way e t k x is = rw (is, ne_eqb h.op op_read a, ne_eqb h.version.sequence.0 0 n, e)
+      older_way e = rw (is, ne_eqb p.head.op op_read a, ne_eqb p.head.version.sequence.0 0 n, e)
 
-      pub newer_way : newer h.version v ≡ true → Settles h (Some i) (Ok (Taken h.version i)) (HasVersion i v)
+      pub newer_way : newer p.head.version v ≡ true → behind t p (Some i) ≡ outcome t p (Ok (Taken p.head.version i))
       unfolding guard pick at_slot version_for taken sent_by
-      newer_way e t k x is = rw (is, ne_eqb h.op op_read a, ne_eqb h.version.sequence.0 0 n, e)
+      newer_way e = rw (is, ne_eqb p.head.op op_read a, ne_eqb p.head.version.sequence.0 0 n, e)
 
     -- one without
-    module _ (u : h.version.sequence.0 ≡ 0) where
-      pub over_way : less_session h.version.session v.session ≡ true → Settles h (Some i) (Err SessionOver) (HasVersion i v)
+    module _ (u : p.head.version.sequence.0 ≡ 0) where
+      pub over_way : less_session p.head.version.session v.session ≡ true → behind t p (Some i) ≡ refuse session_over
       unfolding guard
-      over_way e t k x is = rw (is, ne_eqb h.op op_read a, eq-eqb h.version.sequence.0 0 u, e)
+      over_way e = rw (is, ne_eqb p.head.op op_read a, eq-eqb p.head.version.sequence.0 0 u, e)
 
-      module _ (under : less_session h.version.session v.session ≡ false) where
-        pub last_way : same_session h.version.session v.session ≡ true → last_sequence v.sequence ≡ true → Settles h (Some i) (Err NoNumberLeft) (HasVersion i v)
+      module _ (under : less_session p.head.version.session v.session ≡ false) where
+        pub last_way : same_session p.head.version.session v.session ≡ true → last_sequence v.sequence ≡ true → behind t p (Some i) ≡ refuse no_number_left
         unfolding guard
-        last_way e f t k x is = rw (is, ne_eqb h.op op_read a, eq-eqb h.version.sequence.0 0 u, under, e, f)
+        last_way e f = rw (is, ne_eqb p.head.op op_read a, eq-eqb p.head.version.sequence.0 0 u, under, e, f)
 
-        pub next_way : same_session h.version.session v.session ≡ true → last_sequence v.sequence ≡ false
-            → Settles h (Some i) (Ok (Taken (record { session = h.version.session; sequence = next_sequence v.sequence }) i)) (HasVersion i v)
+        pub next_way : same_session p.head.version.session v.session ≡ true → last_sequence v.sequence ≡ false
+            → behind t p (Some i) ≡ outcome t p (Ok (Taken (record { session = p.head.version.session; sequence = next_sequence v.sequence }) i))
         unfolding guard pick at_slot version_for given taken sent_by
-        next_way e f t k x is = rw (is, ne_eqb h.op op_read a, eq-eqb h.version.sequence.0 0 u, under, e, f)
+        next_way e f = rw (is, ne_eqb p.head.op op_read a, eq-eqb p.head.version.sequence.0 0 u, under, e, f)
 
-        pub first_way : same_session h.version.session v.session ≡ false
-            → Settles h (Some i) (Ok (Taken (record { session = h.version.session; sequence = sequence 1 }) i)) (HasVersion i v)
+        pub first_way : same_session p.head.version.session v.session ≡ false
+            → behind t p (Some i) ≡ outcome t p (Ok (Taken (record { session = p.head.version.session; sequence = sequence 1 }) i))
         unfolding guard pick at_slot version_for given taken sent_by
-        first_way e t k x is = rw (is, ne_eqb h.op op_read a, eq-eqb h.version.sequence.0 0 u, under, e)
+        first_way e = rw (is, ne_eqb p.head.op op_read a, eq-eqb p.head.version.sequence.0 0 u, under, e)
 
 -- ---- a key that is missing
 
-module _ (h : Head) where
-  pub missing_way : (not (eqb h.op op_read) && not (eqb h.version.sequence.0 0)) ≡ true → Settles h None (Err KeyMissing) (λ _. Unit {0})
+module _ (t : Table) (p : Packet) where
+  pub missing_way : is_numbered p ≡ true → behind t p None ≡ refuse key_missing
   unfolding guard
-  missing_way e t k x _ = rw e
+  missing_way e = rw e
 
-  pub absent_way : (not (eqb h.op op_read) && not (eqb h.version.sequence.0 0)) ≡ false → Settles h None (Ok NoKey) (λ _. Unit {0})
+  pub absent_way : is_numbered p ≡ false → behind t p None ≡ outcome t p (Ok NoKey)
   unfolding guard pick absent sent_by
-  absent_way e t k x _ = rw (e, and-false)
+  absent_way e = rw (e, and-false)
 
 -- ---- looking for the key
 
@@ -100,33 +99,42 @@ module _ (h : Head) where
 pub rules_of : {t : List ℕ} → table_ok t ≡ true → TableRules t
 rules_of {t} e = (reflect_table t).0 e
 
-module _ {t : List ℕ} (g : TableRules t) where
-  -- what the search found
-  pub is_found : (p : List ℕ) {k : List ℕ} {f w : Option ℕ} → k ≡ key_of p → f ≡ find k (slots (whole_slots t) t) → f ≡ w → find (key_of p) (table_of t).slots ≡ w
-  is_found p ek ef ew = (λ j. find (sym ek j) (sym (slots_table t g) j)) ∙ (sym ef ∙ ew)
+-- what the search found
+pub is_found : {t : List ℕ} (g : TableRules t) (p : List ℕ) {k : List ℕ} {f w : Option ℕ} → k ≡ key_of p → f ≡ find k (slots (whole_slots t) t) → f ≡ w → find (key_of p) (table_of t).slots ≡ w
+is_found {t} g p ek ef ew = (λ j. find (sym ek j) (sym (slots_table t g) j)) ∙ (sym ef ∙ ew)
 
-  -- the fields of the slot that it found
-  module _ (p : List ℕ) {i : ℕ} (found : find (key_of p) (table_of t).slots ≡ Some i) where
-    there : i < count_of t
-    there = omega (arith, (find_at (key_of p) (table_of t).slots i found).below, length_table t)
-
-    pub found_state : {r : List ℕ} {s : ℕ} → r ≡ row_part t i → s ≡ state_part r → HasState i s (table_of t)
-    found_state e f = sym (f ∙ (ap state_part e ∙ state_table t g i there))
-
-    pub found_version : {r : List ℕ} {v : Version} → r ≡ row_part t i → v ≡ version_part r → HasVersion i v (table_of t)
-    found_version e f = sym (f ∙ (ap version_part e ∙ version_table t g i there))
-
-  -- the value of any slot: of one that is not there it is empty
-  pub any_value : (i : ℕ) → value_part (row_part t i) ≡ (get_or (table_of t).slots i free_slot).value
-  unfolding row_part value_part pick
-  any_value i = go (dec_lt i (count_of t))
+-- the parts of any row are the fields of the slot: of one that is not there they are those of a free slot
+module _ {t : List ℕ} (g : TableRules t) (i : ℕ) where
+  by_row : {A : Type 0} (part : List ℕ → A) (field : Slot → A) → (i < count_of t → part (row_part t i) ≡ field (get_or (table_of t).slots i free_slot)) → part [] ≡ field free_slot
+      → part (row_part t i) ≡ field (get_or (table_of t).slots i free_slot)
+  unfolding row_part
+  by_row part field there empty = go (dec_lt i (count_of t))
     where
       no_row : count_of t ≤ i → row_part t i ≡ []
       no_row h = pick_false _ _ _ (le-ltb i (whole_slots t) (omega (arith, whole_table t g)))
 
-      go : Dec (i < count_of t) → value_part (row_part t i) ≡ (get_or (table_of t).slots i free_slot).value
-      go (yes h) = value_table t g i h
-      go (no h) = ap value_part (no_row (omega arith)) ∙ ap (λ (s : Slot). s.value) (sym (get_or-eq_default (table_of t).slots free_slot (omega (arith, length_table t))))
+      go : Dec (i < count_of t) → part (row_part t i) ≡ field (get_or (table_of t).slots i free_slot)
+      go (yes h) = there h
+      go (no h) = ap part (no_row (omega arith)) ∙ (empty ∙ ap field (sym (get_or-eq_default (table_of t).slots free_slot (omega (arith, length_table t)))))
+
+  pub any_state : state_part (row_part t i) ≡ (get_or (table_of t).slots i free_slot).state
+  unfolding state_part pick
+  any_state = by_row state_part (λ s. s.state) (state_table t g i) refl
+
+  pub any_version : version_part (row_part t i) ≡ (get_or (table_of t).slots i free_slot).version
+  unfolding version_part pick
+  any_version = by_row version_part (λ s. s.version) (version_table t g i) refl
+
+  pub any_value : value_part (row_part t i) ≡ (get_or (table_of t).slots i free_slot).value
+  unfolding value_part pick
+  any_value = by_row value_part (λ s. s.value) (value_table t g i) refl
+
+  -- what was read of its row
+  pub state_at : {r : List ℕ} {n : ℕ} → r ≡ row_part t i → n ≡ state_part r → (get_or (table_of t).slots i free_slot).state ≡ n
+  state_at e f = sym (f ∙ (ap state_part e ∙ any_state))
+
+  pub version_at : {r : List ℕ} {v : Version} → r ≡ row_part t i → v ≡ version_part r → (get_or (table_of t).slots i free_slot).version ≡ v
+  version_at e f = sym (f ∙ (ap version_part e ∙ any_version))
 
 -- the value of a row has no more than there is room for
 part_fits : (r : List ℕ) → length (value_part r) ≤ value_size
@@ -134,6 +142,14 @@ unfolding value_part slot_of
 part_fits r = pick_case (λ (x : List ℕ). length x ≤ value_size) _ _ _ (λ e. let n = (reflect_eqb (length r) row_size).0 e in simp (length-take, length-drop) (omega arith)) (λ e. omega arith)
 
 -- ---- rows 4, 7 and 8
+
+-- what was read of the head
+module _ (q : Query) where
+  pub id_asked : {n : ℕ} → n ≡ id_part q.table.now → n ≡ (table_asked q).id
+  id_asked e = e ∙ id_table q.table.now (rules_of q.rules)
+
+  pub fence_asked : {n : Stamp} → n ≡ fence_part q.table.now → n ≡ (table_asked q).fence
+  fence_asked e = e ∙ fence_table_lem q.table.now (rules_of q.rules)
 
 -- the tests of rows 4 and 8
 abbrev pub elsewhere : Table → Packet → Bool
@@ -230,29 +246,16 @@ is_kept t p h (Value v i) n = refl
 is_kept t p h (NoValue v) n = refl
 is_kept t p h NoKey n = refl
 
--- ---- what the check of the table gave
-
-module _ {t : List ℕ} {b : Bool} (is : b ≡ table_ok t) where
-  pub keeps_rules : b ≡ true → TableRules t
-  keeps_rules e = (reflect_table t).0 (sym is ∙ e)
-
-  pub breaks_rules : b ≡ false → TableRules t → ⊥
-  breaks_rules e = (reflect_table t).1 (sym is ∙ e)
+-- ---- the promise
 
 -- what was read is well-formed
 pub formed_read : {p : List ℕ} {h : Head} → ReadView p h → well_formed p ≡ true
 formed_read {p} v = reflects_yes (reflect_formed p) v.formed
 
--- ---- the promise
-
--- row 1 does not apply
-whole : (t : List ℕ) → TableRules t → not (table_ok t) ≡ false
-whole t g = reflects_no (reflect_not (reflect_table t)) (λ n. n g)
-
 -- a packet that was read: the call comes to what the step does
-comes : (t p out : List ℕ) {h : Head} → TableRules t → outlet_size ≤ length out → ReadView p h → node_call t p out ≡ node_step (table_of t) (asked h p)
+comes : (t p out : List ℕ) {h : Head} → table_ok t ≡ true → outlet_size ≤ length out → ReadView p h → node_call t p out ≡ node_step (table_of t) (asked h p)
 unfolding packet_of
-comes t p out g room v = call_step t p out g room v.formed ∙ ap (λ (k : Head). node_step (table_of t) (asked k p)) (sym v.head)
+comes t p out g room v = call_step t p out (rules_of g) room v.formed ∙ ap (λ (k : Head). node_step (table_of t) (asked k p)) (sym v.head)
 
 module _ {t p out : List ℕ} where
   -- the promise, by what the call comes to
@@ -268,20 +271,20 @@ module _ {t p out : List ℕ} where
   refused : (n : ℕ) → node_call t p out ≡ refuse n → NodeGives t p out n t out
   refused n e = gives (refuse n) e refl refl refl
 
-  pub gives_broken : (TableRules t → ⊥) → NodeGives t p out broken t out
+  pub gives_broken : table_ok t ≡ false → NodeGives t p out broken t out
   unfolding node_call
-  gives_broken n = refused broken (stop_guard _ _ _ (reflects_yes (reflect_not (reflect_table t)) n))
+  gives_broken g = refused broken (stop_guard _ _ _ (ap not g))
 
-  module _ (g : TableRules t) where
+  module _ (g : table_ok t ≡ true) where
     pub gives_small : length out < outlet_size → NodeGives t p out small_outlet t out
     unfolding node_call
-    gives_small h = refused small_outlet (pass_guard _ _ _ (whole t g) ∙ stop_guard _ _ _ (lt-ltb _ _ h))
+    gives_small h = refused small_outlet (pass_guard _ _ _ (ap not g) ∙ stop_guard _ _ _ (lt-ltb _ _ h))
 
     module _ (room : outlet_size ≤ length out) where
       pub gives_malformed : {n : ℕ} → (n ≡ malformed) × (Formed p → ⊥) → NodeGives t p out n t out
       unfolding node_call
       gives_malformed {n} f =
-          refused n (pass_guard _ _ _ (whole t g) ∙ (pass_guard _ _ _ (le-ltb _ _ room) ∙ (stop_guard _ _ _ (reflects_yes (reflect_not (reflect_formed p)) f.1) ∙ ap refuse (sym f.0))))
+          refused n (pass_guard _ _ _ (ap not g) ∙ (pass_guard _ _ _ (le-ltb _ _ room) ∙ (stop_guard _ _ _ (reflects_yes (reflect_not (reflect_formed p)) f.1) ∙ ap refuse (sym f.0))))
 
       module _ {h : Head} (v : ReadView p h) where
         pub gives_refused : (n : ℕ) → node_step (table_of t) (asked h p) ≡ refuse n → NodeGives t p out n t out

@@ -47,6 +47,11 @@ abbrev pub outcome : Table → Packet → Result Reply Refusal → Out Sent
 outcome t p (Err n) = refuse (refusal_number n)
 outcome t p (Ok r) = ok (sent_by t p r)
 
+-- a write or delete that finds its key in slot i: what is taken is stored there
+abbrev pub taken_at : ℕ → Result Version Refusal → Result Reply Refusal
+taken_at i (Err n) = Err n
+taken_at i (Ok v) = Ok (Taken v i)
+
 -- ---- how it is settled
 
 -- the packet whose fields were read: its key and its value are parts of the bytes
@@ -56,17 +61,6 @@ asked h p = packet h (key_of p) (value_of p)
 -- what is left of the step behind the rows 4, 7 and 8
 abbrev pub behind : Table → Packet → Option ℕ → Out Sent
 behind t p f = judge (drop 3 (node_tests t p f)) (ok (node_does t p f))
-
--- for every table that P holds of, every key and every value, where the key was found so
-abbrev pub Settles : Head → Option ℕ → Result Reply Refusal → (Table → Type 0) → Type 0
-Settles h f w P = (t : Table) (k x : List ℕ) → P t → behind t (packet h k x) f ≡ outcome t (packet h k x) w
-
--- of slot i
-abbrev pub HasState : ℕ → ℕ → Table → Type 0
-HasState i state t = (get_or t.slots i free_slot).state ≡ state
-
-abbrev pub HasVersion : ℕ → Version → Table → Type 0
-HasVersion i v t = (get_or t.slots i free_slot).version ≡ v
 
 -- what the step comes to, on a table and a packet as they should be
 pub record Comes (t p : List ℕ) (h : Head) (r : Reply) : Type 0 where

@@ -1,12 +1,12 @@
 // The node step: what a node does with a packet is settled first, and then one packet is sent and one slot written at most.
 #![tactic(auto)]
 
-ghost use Rattle.std.specs.Prelude.{◌≡◌, ◌≤◌, length, eqb, true};
+ghost use Rattle.std.specs.Prelude.{◌≡◌, ℕ, ◌≤◌, length, eqb, true};
 ghost use Rattle.wire.specs.Numbers.{ok, pick, code};
 ghost use Rattle.wire.specs.Packet.{head_of, key_of, value_of, well_formed, sent_in, outlet_size, op_read, op_write};
 ghost use Rattle.store.specs.Table.{table_of, table_ok, find, valued, deleted, write_bytes};
-ghost use Rattle.steps.specs.Node.{node_step, NodeGives};
-ghost use Rattle.node.specs.Ways.{answer_of, version_of, carried, sent_by, outcome, asked, behind, Settles, HasState, HasVersion, Comes};
+ghost use Rattle.steps.specs.Node.{is_read, Alters, Unnumbered, node_step, NodeGives};
+ghost use Rattle.node.specs.Ways.{answer_of, version_of, carried, sent_by, taken_at, outcome, asked, Comes};
 
 use store::State;
 use wire::{Answer, Head, Kind, Op, Refusal, Sequence, Session, Version};
@@ -26,9 +26,9 @@ impl Reply {
         ensures { result ≡ answer_of self }
     {
         match self {
-            Reply::Taken(_, _) => Answer::Query as u8,
-            Reply::Value(_, _) => Answer::Value as u8,
-            Reply::NoValue(_) => Answer::NoValue as u8,
+            Reply::Taken(..) => Answer::Query as u8,
+            Reply::Value(..) => Answer::Value as u8,
+            Reply::NoValue(..) => Answer::NoValue as u8,
             Reply::NoKey => Answer::NoKey as u8,
         }
     }
@@ -43,69 +43,6 @@ impl Reply {
     }
 }
 
-// Unnumbered: the node is head, and gives the number after the stored one.
-fn number(h: Head, i: usize, stored: Version) -> Result<Reply, Refusal>
-    requires { (h.op ≡ op_read → ⊥) × (h.version.sequence.0 ≡ 0) }
-    ensures { Settles h (Some i) result (HasVersion i stored) }
-{
-    let session = h.version.session;
-    if session < stored.session {
-        return Err(Refusal::SessionOver);
-    }
-    if session != stored.session {
-        let first = Version {
-            sequence: Sequence(1),
-            ..h.version
-        };
-        return Ok(Reply::Taken(first, i));
-    }
-    if stored.sequence.last() {
-        return Err(Refusal::NoNumberLeft);
-    }
-    let next = Version {
-        sequence: stored.sequence.next(),
-        ..h.version
-    };
-    Ok(Reply::Taken(next, i))
-}
-
-// A write or delete: numbered, it is taken if it is strictly newer.
-fn alter(h: Head, i: usize, stored: Version) -> Result<Reply, Refusal>
-    requires { h.op ≡ op_read → ⊥ }
-    ensures { Settles h (Some i) result (HasVersion i stored) }
-{
-    if h.version.sequence == Sequence(0) {
-        return number(h, i, stored);
-    }
-    if h.version.newer(stored) {
-        return Ok(Reply::Taken(h.version, i));
-    }
-    Err(Refusal::NotNewer)
-}
-
-// The key stands in slot i: a read answers from it.
-fn at_slot(h: Head, i: usize, state: u8, stored: Version) -> Result<Reply, Refusal>
-    ensures { Settles h (Some i) result (λ t. HasState i state t × HasVersion i stored t) }
-{
-    if h.op != Op::Read as u8 {
-        return alter(h, i, stored);
-    }
-    if state == State::Valued as u8 {
-        return Ok(Reply::Value(stored, i));
-    }
-    Ok(Reply::NoValue(stored))
-}
-
-// The key is missing, which is told to a read and to an unnumbered write or delete.
-fn at_none(h: Head) -> Result<Reply, Refusal>
-    ensures { Settles h None result (λ _. Unit {0}) }
-{
-    if (h.op != Op::Read as u8) & (h.version.sequence != Sequence(0)) {
-        return Err(Refusal::KeyMissing);
-    }
-    Ok(Reply::NoKey)
-}
-
 // A packet as it was read, and the table that is asked: a table that keeps the rules.
 #[derive(Clone, Copy)]
 struct Query<'a> {
@@ -118,16 +55,88 @@ struct Query<'a> {
 }
 
 impl<'a> Query<'a> {
-    ghost use Rattle.node.specs.Queries.{table_asked, asked_by};
+    ghost use Rattle.node.specs.Queries.{table_asked, asked_by, StoredAt, Settles};
+
+    // ---- what is settled
+
+    fn is_read(&self) -> bool
+        ensures { result ≡ is_read (asked_by self.now) }
+    {
+        self.head.op == Op::Read as u8
+    }
+
+    // Unnumbered: the node is head, and gives the number after the stored one.
+    fn number(&self, stored: Version) -> Result<Version, Refusal>
+        requires { Unnumbered (asked_by self.now) }
+        ensures { (i : ℕ) → StoredAt i self.now stored → Settles self.now (Some i) (taken_at i result) }
+    {
+        let asked = self.head.version;
+        if asked.session < stored.session {
+            return Err(Refusal::SessionOver);
+        }
+        if asked.session != stored.session {
+            return Ok(Version {
+                sequence: Sequence(1),
+                ..asked
+            });
+        }
+        if stored.sequence.last() {
+            return Err(Refusal::NoNumberLeft);
+        }
+        Ok(Version {
+            sequence: stored.sequence.next(),
+            ..asked
+        })
+    }
+
+    // A write or delete: numbered, it is taken if it is strictly newer.
+    fn alter(&self, stored: Version) -> Result<Version, Refusal>
+        requires { Alters (asked_by self.now) }
+        ensures { (i : ℕ) → StoredAt i self.now stored → Settles self.now (Some i) (taken_at i result) }
+    {
+        let asked = self.head.version;
+        if asked.sequence == Sequence(0) {
+            return self.number(stored);
+        }
+        if asked.newer(stored) {
+            return Ok(asked);
+        }
+        Err(Refusal::NotNewer)
+    }
+
+    // The key stands in slot i: a read answers from it.
+    fn at_slot(&self, i: usize) -> Result<Reply, Refusal>
+        ensures { Settles self.now (Some i) result }
+    {
+        let row = table::row(self.table, i);
+        let stored = table::version(row);
+        if !self.is_read() {
+            let version = self.alter(stored)?;
+            return Ok(Reply::Taken(version, i));
+        }
+        if table::state(row) == State::Valued as u8 {
+            return Ok(Reply::Value(stored, i));
+        }
+        Ok(Reply::NoValue(stored))
+    }
+
+    // The key is missing, which is told to a read and to an unnumbered write or delete.
+    fn at_none(&self) -> Result<Reply, Refusal>
+        ensures { Settles self.now None result }
+    {
+        if !self.is_read() & (self.head.version.sequence != Sequence(0)) {
+            return Err(Refusal::KeyMissing);
+        }
+        Ok(Reply::NoKey)
+    }
 
     fn look(&self) -> Result<Reply, Refusal>
-        ensures { behind (table_asked self.now) (asked_by self.now) (find (asked_by self.now).key (table_asked self.now).slots) ≡ outcome (table_asked self.now) (asked_by self.now) result }
+        ensures { Settles self.now (find (asked_by self.now).key (table_asked self.now).slots) result }
     {
-        let Some(i) = table::find(self.table, packet::key_of(self.packet)) else {
-            return at_none(self.head);
-        };
-        let row = table::row(self.table, i);
-        at_slot(self.head, i, table::state(row), table::version(row))
+        match table::find(self.table, packet::key_of(self.packet)) {
+            Some(i) => self.at_slot(i),
+            None => self.at_none(),
+        }
     }
 
     fn ask(&self) -> Result<Reply, Refusal>
@@ -140,20 +149,22 @@ impl<'a> Query<'a> {
         if h.stamp < table::fence(self.table) {
             return Err(Refusal::BelowFence);
         }
-        if (h.op != Op::Read as u8) & (h.version.session == Session(0)) {
+        if !self.is_read() & (h.version.session == Session(0)) {
             return Err(Refusal::Sessionless);
         }
         self.look()
     }
+
+    // ---- what is sent
 
     // The value that a reply carries: a part of the packet, or of the slot.
     fn value_in(&self, r: Reply) -> &'a [u8]
         ensures { result.now ≡ carried (table_asked self.now) (asked_by self.now).value r }
     {
         match r {
-            Reply::Taken(_, _) => packet::value_of(self.packet),
+            Reply::Taken(..) => packet::value_of(self.packet),
             Reply::Value(_, i) => table::value(table::row(self.table, i)),
-            Reply::NoValue(_) | Reply::NoKey => &self.packet[..0],
+            Reply::NoValue(..) | Reply::NoKey => &self.packet[..0],
         }
     }
 

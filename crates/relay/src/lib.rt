@@ -32,7 +32,7 @@ struct Passage<'a> {
     ghost fields: { head ≡ head_of packet.now },
 }
 
-impl<'a> Passage<'a> {
+impl Passage<'_> {
     ghost use Rattle.relay.specs.Passages.{passing};
 
     // ---- where the packet goes

@@ -1,0 +1,31 @@
+-- `node::at_slot`: a read by the state, a write or delete as it is taken.
+use Rattle.std.proofs.Common.{rules}
+use Rattle.std.proofs.lemmas.Result.{err_from_is_err_and}
+use Rattle.node.specs.Queries.{table_asked, asked_by}
+use Rattle.node.proofs.Laws.{rules_of, state_at, version_at, value_way, no_value_way}
+use Rattle.node.proofs.Query.at_slot.Goals as goal
+
+pub returns-in_err-version : goal.returns-in_err-version
+returns-in_err-version c =
+    let g = rules_of c.args.self.now.rules in
+    let p = err_from_is_err_and c.from_residual.result c.from_residual.ensures.1 in
+    rw (p.1, p.2) (c.in_err-version.ensures c.args.i (version_at g c.args.i c.row-row.ensures c.version-stored.ensures))
+
+pub returns-then-not-is_read : goal.returns-then-not-is_read
+returns-then-not-is_read c =
+    let g = rules_of c.args.self.now.rules in
+    c.in_ok-version.ensures c.args.i (version_at g c.args.i c.row-row.ensures c.version-stored.ensures)
+
+pub returns-then-state : goal.returns-then-state
+returns-then-state c =
+    let q = c.args.self.now in
+    let g = rules_of q.rules in
+    let i = c.args.i in
+    value_way (table_asked q) (asked_by q) i (version_at g i c.row-row.ensures c.version-stored.ensures) (search rules) (state_at g i c.row-row.ensures c.state.ensures) c.if-state.true
+
+pub returns : goal.returns
+returns c =
+    let q = c.args.self.now in
+    let g = rules_of q.rules in
+    let i = c.args.i in
+    no_value_way (table_asked q) (asked_by q) i (version_at g i c.row-row.ensures c.version-stored.ensures) (search rules) (state_at g i c.row-row.ensures c.state.ensures) c.if-state.false
