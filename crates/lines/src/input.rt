@@ -1,5 +1,5 @@
 // The lines of an input: what was read and not passed on yet, and the line that is made of it.
-ghost use Rattle.std.specs.Prelude.{◌≤◌, IfSome, length};
+ghost use Rattle.std.specs.Prelude.{◌≡◌, ◌≤◌, IfSome, length};
 ghost use Rattle.lines.specs.Sizes.{line_size, read_size};
 
 use std::io::Read;
@@ -25,7 +25,10 @@ pub struct Lines<R> {
 }
 
 impl<R: Read> Lines<R> {
-    pub fn new(reader: R) -> Lines<R> {
+    // At first nothing is unread.
+    pub fn new(reader: R) -> Lines<R>
+        ensures { result.at ≡ result.end }
+    {
         Lines {
             reader,
             read: [0; READ_SIZE],

@@ -24,6 +24,14 @@ impl fmt::Display for Place {
     }
 }
 
+// A parcel that a line made: its number, where it goes, and its packet.
+#[derive(Clone, Copy)]
+pub struct Made<'a> {
+    pub parcel: usize,
+    pub to: Place,
+    pub packet: &'a [u8],
+}
+
 // Destination, version and value of a packet.
 fn columns<W: Write>(out: &mut W, to: Place, version: Version, value: &[u8]) -> Result<()> {
     let session = version.session.0;
@@ -36,27 +44,30 @@ fn columns<W: Write>(out: &mut W, to: Place, version: Version, value: &[u8]) -> 
     out.write_all(b"\n")
 }
 
-// The whole line; where there is no packet, that.
-fn row<W: Write>(
-    out: &mut W,
-    line: u64,
-    number: u8,
-    parcel: usize,
-    to: Place,
-    packet: &[u8],
-) -> Result<()> {
-    write!(out, "{line} {number} {parcel} ")?;
-    let reading = packet::read(packet);
+// The parcel of a line; what is no packet has no columns.
+fn parcel<W: Write>(out: &mut W, made: Made) -> Result<()> {
+    let number = made.parcel;
+    write!(out, "{number} ")?;
+    let reading = packet::read(made.packet);
     match reading {
-        Reading::Fields(h) => columns(out, to, h.version, packet::value(packet)),
+        Reading::Fields(h) => columns(out, made.to, h.version, packet::value(made.packet)),
         Reading::Unread(_) => out.write_all(b"- 0.0 -\n"),
     }
 }
 
-// Writes what a line gave, in one write: 0 or a refusal, and the parcel made with its packet (0 and nothing where none was). A write that fails is passed over.
-pub fn tell(rt: &impl Print, line: u64, number: u8, parcel: usize, to: Place, packet: &[u8]) {
+// The whole line.
+fn row<W: Write>(out: &mut W, line: u64, number: u8, made: Option<Made>) -> Result<()> {
+    write!(out, "{line} {number} ")?;
+    match made {
+        Some(made) => parcel(out, made),
+        None => out.write_all(b"0 - 0.0 -\n"),
+    }
+}
+
+// Writes what a line gave, in one write: 0 or a refusal, and the parcel made, if one was. A write that fails is passed over.
+pub fn tell(rt: &impl Print, line: u64, number: u8, made: Option<Made>) {
     let mut out = Cursor::new([0u8; ROW_SIZE]);
-    let _ = row(&mut out, line, number, parcel, to, packet);
+    let _ = row(&mut out, line, number, made);
     let used = out.position() as usize;
     let bytes = out.into_inner();
     if let Some(written) = bytes.get(..used) {

@@ -1,9 +1,9 @@
 // A line of a script: its words, and the command that they make.
 #![tactic(auto)]
 
-ghost use Rattle.std.specs.Prelude.{◌≤◌, ◌≡◌};
+ghost use Rattle.std.specs.Prelude.{◌≤◌, ◌≡◌, length};
 ghost use Rattle.wire.specs.Numbers.{eqs};
-ghost use Rattle.script.specs.Sizes.{most_number};
+ghost use Rattle.script.specs.Sizes.{most_text, most_number};
 ghost use Rattle.script.specs.Words.{word, word_count, plain, text_of, key_of, value_of, capped, longer, number_of};
 ghost use Rattle.script.specs.Commands.{of_one, of_two, bare_of, of_three, write_of, open_of, of_four, of_count, command_of};
 
@@ -103,9 +103,10 @@ fn is_plain(w: &[u8]) -> bool
 }
 
 // A word where it can be a key or a value; else nothing.
-#[tactic(auto, unfolding(wire::specs::Numbers::pick, crate::specs::Words::text_of))]
+#[tactic(auto, using(crate::proofs::Laws::text_fits), unfolding(wire::specs::Numbers::pick, crate::specs::Words::text_of))]
 fn text(w: &[u8]) -> &[u8]
-    ensures { result.now ≡ text_of w.now }
+    ensures value { result.now ≡ text_of w.now }
+    ensures bound { length result.now ≤ most_text }
 {
     if w.len() <= MOST_TEXT && is_plain(w) {
         return w;
@@ -115,14 +116,16 @@ fn text(w: &[u8]) -> &[u8]
 
 // The key of a line, where its third word can be one.
 pub fn key(line: &[u8]) -> &[u8]
-    ensures { result.now ≡ key_of line.now }
+    ensures value { result.now ≡ key_of line.now }
+    ensures bound { length result.now ≤ most_text }
 {
     text(word(line, 2))
 }
 
 // The value of a line, where its fourth word can be one.
 pub fn value(line: &[u8]) -> &[u8]
-    ensures { result.now ≡ value_of line.now }
+    ensures value { result.now ≡ value_of line.now }
+    ensures bound { length result.now ≤ most_text }
 {
     text(word(line, 3))
 }
