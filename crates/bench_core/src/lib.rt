@@ -6,7 +6,7 @@ mod nodes;
 mod post;
 
 use lines::input::Lines;
-use nodes::{Nodes, SLOTS};
+use nodes::{FIRST, Nodes, SLOTS};
 use numbers::RECORD_SIZE;
 use parcels::{Fault, Parcels};
 use script::Command;
@@ -28,10 +28,10 @@ fn answered(number: u8) -> Result<(), Fault> {
 }
 
 impl World {
-    // Nodes 1, 2 and 3, and the record of their chain.
+    // The first nodes, and the record of their chain.
     fn new() -> World {
         let mut record = [0u32; RECORD_SIZE];
-        register::register_start(&mut record, &[1, 2, 3], SLOTS);
+        register::register_start(&mut record, &FIRST, SLOTS);
         World {
             record,
             nodes: Nodes::new(),
@@ -65,7 +65,7 @@ impl World {
         }
     }
 
-    // One line of a number: what it gives is written.
+    // A line: what it gives is written.
     fn answer(&mut self, rt: &impl Print, number: u64, line: &[u8]) {
         let n = self.parcels.count();
         let outcome = self.step(line);

@@ -9,6 +9,9 @@ pub const MOST_NODES: u16 = 8;
 
 pub const SLOTS: u16 = 8;
 
+// The nodes at the start.
+pub const FIRST: [u16; 3] = [1, 2, 3];
+
 const TABLE_SIZE: usize = HEAD_SIZE + ROW_SIZE * SLOTS as usize;
 
 pub type Table = [u8; TABLE_SIZE];
@@ -28,14 +31,14 @@ pub struct Nodes {
 fn place(id: u16) -> usize
     ensures { result < most_nodes }
 {
-    if id == 0 || MOST_NODES < id {
-        return 0;
+    match id {
+        1..=MOST_NODES => usize::from(id) - 1,
+        _ => 0,
     }
-    usize::from(id) - 1
 }
 
 impl Nodes {
-    // Nodes 1, 2 and 3 with blank tables.
+    // The first nodes with blank tables.
     pub fn new() -> Nodes {
         let unknown = Node {
             table: [0; TABLE_SIZE],
@@ -44,9 +47,9 @@ impl Nodes {
         let mut nodes = Nodes {
             nodes: [unknown; MOST_NODES as usize],
         };
-        nodes.blank(1);
-        nodes.blank(2);
-        nodes.blank(3);
+        for id in FIRST {
+            nodes.blank(id);
+        }
         nodes
     }
 

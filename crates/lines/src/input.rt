@@ -10,10 +10,11 @@ const LINE_SIZE: usize = 65;
 // The most bytes of one read.
 const READ_SIZE: usize = 4096;
 
+// In fixed memory; std's readers of lines allocate.
 #[derive(Drop)]
 pub struct Lines<R> {
     reader: R,
-    // What was read; what is unread of it is from `at` to `end`.
+    // What was read; unread of it is what stands from `at` to `end`.
     read: [u8; READ_SIZE],
     at: usize,
     end: usize,

@@ -81,7 +81,7 @@ fn more(n: u16, b: u8) -> Option<u16>
     None
 }
 
-// The number that a word shows, if it shows one that is not too large.
+// The number that a word shows, if it shows one that is not too large; `parse` would take a sign too.
 #[tactic(auto, using(crate::proofs::Laws::number_turn, crate::proofs::Laws::number_end), unfolding(wire::specs::Numbers::pick, crate::specs::Words::number_of))]
 fn number(w: &[u8]) -> Option<u16>
     ensures { result ≡ number_of w.now }
