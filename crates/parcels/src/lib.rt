@@ -10,7 +10,7 @@ ghost use Rattle.parcels.specs.Query.{padded_key, query_of, SendGives};
 use lines::output::{Made, Place};
 use wire::{FRONT_SIZE, Head, KEY_SIZE, OUTLET_SIZE, QUERY, Stamp, Version};
 
-// Why a line failed: a refusal of the register, or the bench's own reasons, tried first, and the second before the first.
+// Why a line failed: a refusal, by the number that the register's exports give, or the bench's own reasons, tried first, and the second before the first.
 #[derive(Clone, Copy)]
 pub enum Fault {
     Refused(u8),
