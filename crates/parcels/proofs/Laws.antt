@@ -2,14 +2,12 @@
 use Prim.Native.Nat.{ℕ, ◌+◌, ◌-◌, ◌≤◌, ◌<◌}
 use mathlib.Core.Path.{◌≡◌, refl, sym, ap, ap₂, subst, ◌∙◌}
 use mathlib.Core.List.{List, ◌++◌}
-use native.Mathlib.Nat.{zero-add}
 use native.Mathlib.Omega.{arith}
 use borrow.Author.Tests.{ltb-true, ltb-false}
 use lib.ListN.{length, get_or, take, drop, replicate, length-take, length-drop, take-append-drop, length-replicate, replicate-append-replicate}
 use lib.Seq.{take-add, take-append_seam, drop_at}
 use lib.Dec.{ltb}
 use Rattle.std.specs.Prelude.{Result, slice_get}
-use Rattle.be.specs.Be.{put}
 use Rattle.wire.specs.Numbers.{left}
 use Rattle.wire.specs.Packet.{Packet, packet, front_size, key_size, outlet_size, length_at, value_of, write_call, sent_in, WriteGives}
 use Rattle.wire.specs.declared.Head.{Head}
@@ -64,12 +62,9 @@ zeros_left j m h =
     let parts : replicate {A = ℕ} m 0 ≡ replicate j 0 ++ replicate (m - j) 0 = sym (replicate-append-replicate j (m - j) 0 ∙ ap (λ (k : ℕ). replicate {A = ℕ} k 0) n) in
     ap (drop j) parts ∙ drop_at (replicate j 0) (replicate (m - j) 0) j (length-replicate j 0)
 
-pub key_padded : (l k r : List ℕ) → k ≡ words.key_of l → length k ≤ key_size → r ≡ put (replicate key_size 0) 0 k → r ≡ padded_key l
-unfolding padded_key put
-key_padded l k r e h f =
-    f
-    ∙ ap (λ (t : List ℕ). k ++ t) (ap (λ (n : ℕ). drop n (replicate {A = ℕ} key_size 0)) (zero-add (length k)) ∙ zeros_left (length k) key_size h)
-    ∙ ap (λ (t : List ℕ). t ++ replicate (key_size - length t) 0) e
+pub key_padded : (l k r : List ℕ) → k ≡ words.key_of l → length k ≤ key_size → r ≡ k → r ++ drop (length k) (replicate key_size 0) ≡ padded_key l
+unfolding padded_key
+key_padded l k r e h f = ap₂ ◌++◌ (f ∙ e) (zeros_left (length k) key_size h ∙ ap (λ (t : List ℕ). replicate {A = ℕ} (key_size - length t) 0) e)
 
 -- what is written of it is what its line says
 pub sends : (a a' : Parcels) (l k v o : List ℕ) (op n : ℕ) (r : Result (Unit {0}) Fault) (h : Head) (w : Writing) → k ≡ padded_key l → v ≡ words.value_of l → n ≡ count_of a → h ≡ query_of op (n + 1) (length v)

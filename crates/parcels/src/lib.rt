@@ -199,7 +199,8 @@ fn query(op: u8, request: u32, length: u8) -> Head
 pub fn key(line: &[u8]) -> [u8; KEY_SIZE]
     ensures { result ≡ padded_key line.now }
 {
+    let text = script::key(line);
     let mut key = [0u8; KEY_SIZE];
-    be::put_bytes(&mut key, 0, script::key(line));
+    key[..text.len()].copy_from_slice(text);
     key
 }
