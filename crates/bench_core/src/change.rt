@@ -1,8 +1,8 @@
 // The controller's steps on the bench.
-use crate::nodes::{MOST_NODES, Nodes, Table};
-use crate::{Record, nodes};
-use parcels::{HALTED, UNCLEAR};
-use script::Order;
+use crate::nodes::{MOST_NODES, Table};
+use crate::{World, answered};
+use parcels::Fault;
+use script::{Order, Side};
 
 // Where the record has the named id, the new id and the next slot of the open change; all are 0 where none is open.
 const NAMED: usize = 14;
@@ -17,60 +17,69 @@ fn short(n: u32) -> u16 {
 }
 
 // The record's number of a kind of change.
-fn kind(after: bool) -> u8 {
-    if after { 2 } else { 1 }
-}
-
-// An open that succeeds makes the new node's table.
-fn open(rec: &mut Record, nodes: &mut Nodes, after: bool, named: u16, fresh: u16) -> u8 {
-    if (MOST_NODES < fresh) | !nodes::known(nodes, named) {
-        return UNCLEAR;
+fn kind(side: Side) -> u8 {
+    match side {
+        Side::Before => 1,
+        Side::After => 2,
     }
-    let n = register::register_open(rec, kind(after), named, fresh);
-    if n == 0 {
-        nodes::blank(nodes, fresh);
+}
+
+impl World {
+    // An open that succeeds makes the new node's table.
+    fn open(&mut self, side: Side, named: u16, fresh: u16) -> Result<(), Fault> {
+        if MOST_NODES < fresh || !self.nodes.is_known(named) {
+            return Err(Fault::Unclear);
+        }
+        answered(register::register_open(&mut self.record, kind(side), named, fresh))?;
+        self.nodes.blank(fresh);
+        Ok(())
     }
-    n
-}
 
-fn fence(rec: &mut Record, nodes: &mut Nodes) -> u8 {
-    let named = short(rec[NAMED]);
-    if nodes::halted(nodes, named) {
-        return HALTED;
+    fn fence(&mut self) -> Result<(), Fault> {
+        let named = short(self.record[NAMED]);
+        if self.nodes.is_halted(named) {
+            return Err(Fault::Halted);
+        }
+        let table = self.nodes.table(named);
+        answered(register::register_fence(&mut self.record, table))
     }
-    register::register_fence(rec, &mut nodes[nodes::place(named)])
-}
 
-// The named node's table comes by value: two tables of one array cannot be lent together.
-fn moved(rec: &mut Record, nodes: &mut Nodes, table: Table, fresh: u16) -> u8 {
-    let next = short(rec[NEXT]);
-    register::register_copy(rec, next, &table, &mut nodes[nodes::place(fresh)])
-}
-
-fn copy(rec: &mut Record, nodes: &mut Nodes) -> u8 {
-    let named = short(rec[NAMED]);
-    let fresh = short(rec[FRESH]);
-    if nodes::halted(nodes, named) | nodes::halted(nodes, fresh) {
-        return HALTED;
+    fn copied(&mut self, from: &Table, fresh: u16) -> Result<(), Fault> {
+        let next = short(self.record[NEXT]);
+        let table = self.nodes.table(fresh);
+        answered(register::register_copy(&mut self.record, next, from, table))
     }
-    let table = nodes[nodes::place(named)];
-    moved(rec, nodes, table, fresh)
-}
 
-fn remove(rec: &mut Record, nodes: &Nodes, id: u16) -> u8 {
-    if nodes::halted(nodes, id) {
-        return register::register_remove(rec, id);
+    // The named node's table goes by value: two tables of one array cannot be lent together.
+    fn copy(&mut self) -> Result<(), Fault> {
+        let named = short(self.record[NAMED]);
+        let fresh = short(self.record[FRESH]);
+        if self.nodes.is_halted(named) || self.nodes.is_halted(fresh) {
+            return Err(Fault::Halted);
+        }
+        let from = *self.nodes.table(named);
+        self.copied(&from, fresh)
     }
-    UNCLEAR
-}
 
-pub fn rule(rec: &mut Record, nodes: &mut Nodes, order: Order) -> u8 {
-    match order {
-        Order::Open(after, named, fresh) => open(rec, nodes, after, named, fresh),
-        Order::Fence => fence(rec, nodes),
-        Order::Copy => copy(rec, nodes),
-        Order::Activate => register::register_activate(rec),
-        Order::Cancel => register::register_cancel(rec),
-        Order::Remove(id) => remove(rec, nodes, id),
+    fn remove(&mut self, id: u16) -> Result<(), Fault> {
+        if !self.nodes.is_halted(id) {
+            return Err(Fault::Unclear);
+        }
+        answered(register::register_remove(&mut self.record, id))
+    }
+
+    pub fn change(&mut self, order: Order) -> Result<(), Fault> {
+        match order {
+            Order::Open(side, named, fresh) => self.open(
+                side,
+                named.ok_or(Fault::Unclear)?,
+                fresh.ok_or(Fault::Unclear)?,
+            ),
+            Order::Fence => self.fence(),
+            Order::Copy => self.copy(),
+            Order::Activate => answered(register::register_activate(&mut self.record)),
+            Order::Cancel => answered(register::register_cancel(&mut self.record)),
+            Order::Remove(id) => self.remove(id.ok_or(Fault::Unclear)?),
+        }
     }
 }

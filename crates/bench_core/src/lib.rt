@@ -1,89 +1,86 @@
 // The bench: reads a script from standard input, line by line, and writes a line for each.
 #![tactic(auto)]
 
-ghost use Rattle.std.specs.Prelude.{◌≤◌, length};
-
 mod change;
 mod nodes;
 mod post;
 
-use lines::input::Unread;
-use nodes::{Nodes, ROWS, TABLE_SIZE};
+use lines::input::Lines;
+use nodes::{FIRST, Nodes, SLOTS};
 use numbers::RECORD_SIZE;
-use parcels::{AREA_SIZE, Area, UNCLEAR};
+use parcels::{Fault, Parcels};
 use script::Command;
-use std::io::Read;
 
-// The record in numbers, as the exports take it.
-type Record = [u32; RECORD_SIZE];
+// What the commands change: the record in numbers, as the exports take it, the nodes, and the parcels.
+#[derive(Drop)]
+struct World {
+    record: [u32; RECORD_SIZE],
+    nodes: Nodes,
+    parcels: Parcels,
+}
 
-// Room for a line, and for what was read and not passed on yet.
-const INPUT_SIZE: usize = 65 + 4096;
-
-type Room = [u8; INPUT_SIZE];
-
-// One line: 0 or a refusal.
-fn step(rec: &mut Record, nodes: &mut Nodes, area: &mut Area, line: &[u8]) -> u8 {
-    let command = script::read(line);
-    match command {
-        Command::Enter(id) => nodes::enter(rec, nodes, id, line),
-        Command::Send(op) => parcels::send(area, op, line),
-        Command::Deliver(p) => post::deliver(rec, nodes, area, p as usize),
-        Command::Halt(id) => nodes::halt(nodes, id),
-        Command::Rule(order) => change::rule(rec, nodes, order),
-        Command::Unclear => UNCLEAR,
+// What a call of the register answered.
+fn answered(number: u8) -> Result<(), Fault> {
+    if number == 0 {
+        return Ok(());
     }
+    Err(Fault::Refused(number))
 }
 
-// A line: what it gives is written.
-fn answer(
-    rt: &impl Print,
-    rec: &mut Record,
-    nodes: &mut Nodes,
-    area: &mut Area,
-    number: u64,
-    line: &[u8],
-) {
-    let n = parcels::count(area);
-    let result = step(rec, nodes, area, line);
-    parcels::tell(rt, area, number, result, n);
-}
+impl World {
+    // The first nodes, and the record of their chain.
+    fn new() -> World {
+        let mut record = [0u32; RECORD_SIZE];
+        register::register_start(&mut record, &FIRST, SLOTS);
+        World {
+            record,
+            nodes: Nodes::new(),
+            parcels: Parcels::new(),
+        }
+    }
 
-// What an area begins with.
-fn front(s: &[u8], n: usize) -> &[u8]
-    requires { n ≤ length s.now }
-{
-    &s[0..n]
+    // The key of a line enters a node's table.
+    fn enter(&mut self, id: u16, line: &[u8]) -> Result<(), Fault> {
+        if !self.nodes.is_known(id) {
+            return Err(Fault::Unclear);
+        }
+        if self.nodes.is_halted(id) {
+            return Err(Fault::Halted);
+        }
+        let key = parcels::key(line);
+        let table = self.nodes.table(id);
+        answered(register::register_enter(&self.record, table, id, &key))
+    }
+
+    // One line.
+    fn step(&mut self, line: &[u8]) -> Result<(), Fault> {
+        let command = script::read(line);
+        match command {
+            Command::Enter(id) => self.enter(id.ok_or(Fault::Unclear)?, line),
+            Command::Send(op) => self.parcels.send(op, line),
+            Command::Deliver(p) => self.deliver(usize::from(p.ok_or(Fault::Unclear)?)),
+            Command::Halt(id) => self.nodes.halt(id.ok_or(Fault::Unclear)?),
+            Command::Rule(order) => self.change(order),
+            Command::Unclear => Err(Fault::Unclear),
+        }
+    }
+
+    // A line: what it gives is written.
+    fn answer(&mut self, rt: &impl Print, number: u64, line: &[u8]) {
+        let n = self.parcels.count();
+        let outcome = self.step(line);
+        self.parcels.tell(rt, number, outcome, n);
+    }
 }
 
 // All lines of the input. A proved loop has to end, so there is a last number.
-fn play<R: Read>(
-    rt: &impl Print,
-    reader: &mut R,
-    rec: &mut Record,
-    nodes: &mut Nodes,
-    area: &mut Area,
-    input: &mut Room,
-) {
-    let mut rest = Unread { at: 0, end: 0 };
-    let mut number = 0;
-    while number < u64::MAX {
-        number += 1;
-        let l = lines::input::next(reader, input, rest);
-        if !l.there {
-            return;
-        }
-        answer(rt, rec, nodes, area, number, front(input, l.used));
-        rest = l.rest;
-    }
-}
-
 pub fn run(rt: &(impl Input + Print)) {
-    let mut rec = [0u32; RECORD_SIZE];
-    let mut nodes = [[0u8; TABLE_SIZE]; ROWS];
-    let mut area = [0u8; AREA_SIZE];
-    let mut input = [0u8; INPUT_SIZE];
-    let mut reader = rt.reader();
-    nodes::start(&mut rec, &mut nodes);
-    play(rt, &mut reader, &mut rec, &mut nodes, &mut area, &mut input);
+    let mut world = World::new();
+    let mut lines = Lines::new(rt.reader());
+    for number in 1..=u64::MAX {
+        let Some(line) = lines.next() else {
+            return;
+        };
+        world.answer(rt, number, line);
+    }
 }

@@ -1,78 +1,81 @@
-// The nodes: a table for each that there can be, and behind the tables a row that has of each whether it is halted.
+// The nodes: of each that there can be its table, and whether it is halted.
 ghost use Rattle.std.specs.Prelude.{◌<◌};
 ghost use Rattle.bench_core.specs.Sizes.{most_nodes};
 
-use crate::Record;
-use parcels::{HALTED, UNCLEAR};
+use parcels::Fault;
 use store::{HEAD_SIZE, ROW_SIZE};
 
 pub const MOST_NODES: u16 = 8;
 
-const SLOTS: u16 = 8;
+pub const SLOTS: u16 = 8;
 
-pub const TABLE_SIZE: usize = HEAD_SIZE + ROW_SIZE * SLOTS as usize;
+// The nodes at the start.
+pub const FIRST: [u16; 3] = [1, 2, 3];
 
-// The row that has whether each node is halted; the tables are before it.
-const HALTS: usize = MOST_NODES as usize;
-
-pub const ROWS: usize = HALTS + 1;
+const TABLE_SIZE: usize = HEAD_SIZE + ROW_SIZE * SLOTS as usize;
 
 pub type Table = [u8; TABLE_SIZE];
 
-pub type Nodes = [Table; ROWS];
+#[derive(Clone, Copy)]
+struct Node {
+    table: Table,
+    halted: bool,
+}
 
-// Where the table of a node is; that of node 1 for what is no id.
-pub fn place(id: u16) -> usize
+#[derive(Drop)]
+pub struct Nodes {
+    nodes: [Node; MOST_NODES as usize],
+}
+
+// Where the node of an id is; node 1 for what is no id.
+fn place(id: u16) -> usize
     ensures { result < most_nodes }
 {
-    if id == 0 {
-        return 0;
+    match id {
+        1..=MOST_NODES => usize::from(id) - 1,
+        _ => 0,
     }
-    if MOST_NODES < id {
-        return 0;
-    }
-    id as usize - 1
 }
 
-// A node is known once its table was made: before, its id stands nowhere.
-pub fn known(nodes: &Nodes, id: u16) -> bool {
-    table::id(&nodes[place(id)]) == id
-}
-
-// Whether a known node is halted.
-pub fn halted(nodes: &Nodes, id: u16) -> bool {
-    known(nodes, id) & (nodes[HALTS][place(id)] == 1)
-}
-
-pub fn halt(nodes: &mut Nodes, id: u16) -> u8 {
-    if known(nodes, id) {
-        nodes[HALTS][place(id)] = 1;
-        return 0;
-    }
-    UNCLEAR
-}
-
-pub fn blank(nodes: &mut Nodes, id: u16) {
-    register::register_blank(&mut nodes[place(id)], id, SLOTS);
-}
-
-// Nodes 1, 2 and 3 with blank tables, and the record of their chain.
-pub fn start(rec: &mut Record, nodes: &mut Nodes) {
-    blank(nodes, 1);
-    blank(nodes, 2);
-    blank(nodes, 3);
-    let ids = [1u16, 2, 3];
-    register::register_start(rec, &ids, SLOTS);
-}
-
-// The key of a line that enters.
-pub fn enter(rec: &Record, nodes: &mut Nodes, id: u16, line: &[u8]) -> u8 {
-    if known(nodes, id) {
-        if halted(nodes, id) {
-            return HALTED;
+impl Nodes {
+    // The first nodes with blank tables.
+    pub fn new() -> Nodes {
+        let unknown = Node {
+            table: [0; TABLE_SIZE],
+            halted: false,
+        };
+        let mut nodes = Nodes {
+            nodes: [unknown; MOST_NODES as usize],
+        };
+        for id in FIRST {
+            nodes.blank(id);
         }
-        let key = parcels::key(line);
-        return register::register_enter(rec, &mut nodes[place(id)], id, &key);
+        nodes
     }
-    UNCLEAR
+
+    pub fn table(&mut self, id: u16) -> &mut Table {
+        &mut self.nodes[place(id)].table
+    }
+
+    pub fn blank(&mut self, id: u16) {
+        register::register_blank(self.table(id), id, SLOTS);
+    }
+
+    // A node is known once its table was made: before, its id stands nowhere.
+    pub fn is_known(&self, id: u16) -> bool {
+        table::id(&self.nodes[place(id)].table) == id
+    }
+
+    // Whether a known node is halted.
+    pub fn is_halted(&self, id: u16) -> bool {
+        self.is_known(id) && self.nodes[place(id)].halted
+    }
+
+    pub fn halt(&mut self, id: u16) -> Result<(), Fault> {
+        if !self.is_known(id) {
+            return Err(Fault::Unclear);
+        }
+        self.nodes[place(id)].halted = true;
+        Ok(())
+    }
 }

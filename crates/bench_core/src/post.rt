@@ -1,45 +1,49 @@
 // Parcels delivered: what a node or the relay makes of one becomes the next.
-use crate::nodes::Nodes;
-use crate::{Record, nodes};
-use lines::output::{CLIENT, RELAY};
-use parcels::{Area, HALTED, UNCLEAR};
+use crate::{World, answered};
+use lines::output::Place;
+use parcels::Fault;
 use wire::OUTLET_SIZE;
 
-// The relay's number of a packet that is sent on: this and where it goes. A smaller one is a refusal.
+// The relay's number of a packet that is sent on: this and where it goes, 0 for the client. A smaller one is a refusal.
 const SENT: u32 = 65536;
 
-// A parcel to the relay.
-fn relayed(rec: &Record, area: &mut Area, p: usize) -> u8 {
-    let mut outlet = [0u8; OUTLET_SIZE];
-    let packet = parcels::packet_of(area, p);
-    let code = register::register_relay_step(rec, packet, &mut outlet);
-    if code < SENT {
-        return (code % 256) as u8;
+// Where a packet that is sent on goes.
+fn place(id: u16) -> Place {
+    match id {
+        0 => Place::Client,
+        id => Place::Node(id),
     }
-    parcels::keep(area, (code % SENT) as u16, outlet)
 }
 
-// A parcel to a node; what the node makes of it goes to the relay.
-fn stepped(nodes: &mut Nodes, area: &mut Area, p: usize, id: u16) -> u8 {
-    let mut outlet = [0u8; OUTLET_SIZE];
-    let packet = parcels::packet_of(area, p);
-    let n = register::register_node_step(&mut nodes[nodes::place(id)], packet, &mut outlet);
-    if n != 0 {
-        return n;
+impl World {
+    // A parcel to the relay.
+    fn relay(&mut self, p: usize) -> Result<(), Fault> {
+        let mut outlet = [0u8; OUTLET_SIZE];
+        let packet = self.parcels.packet_of(p);
+        let code = register::register_relay_step(&self.record, packet, &mut outlet);
+        if code < SENT {
+            return Err(Fault::Refused((code % 256) as u8));
+        }
+        self.parcels.keep(place((code % SENT) as u16), outlet)
     }
-    parcels::keep(area, RELAY, outlet)
-}
 
-pub fn deliver(rec: &Record, nodes: &mut Nodes, area: &mut Area, p: usize) -> u8 {
-    let to = parcels::destination(area, p);
-    if to == CLIENT {
-        return UNCLEAR;
+    // A parcel to a node; what the node makes of it goes to the relay.
+    fn node(&mut self, p: usize, id: u16) -> Result<(), Fault> {
+        if self.nodes.is_halted(id) {
+            return Err(Fault::Halted);
+        }
+        let mut outlet = [0u8; OUTLET_SIZE];
+        let packet = self.parcels.packet_of(p);
+        let table = self.nodes.table(id);
+        answered(register::register_node_step(table, packet, &mut outlet))?;
+        self.parcels.keep(Place::Relay, outlet)
     }
-    if to == RELAY {
-        return relayed(rec, area, p);
+
+    pub fn deliver(&mut self, p: usize) -> Result<(), Fault> {
+        match self.parcels.destination(p) {
+            Place::Client => Err(Fault::Unclear),
+            Place::Relay => self.relay(p),
+            Place::Node(id) => self.node(p, id),
+        }
     }
-    if nodes::halted(nodes, to) {
-        return HALTED;
-    }
-    stepped(nodes, area, p, to)
 }

@@ -1,101 +1,92 @@
-// Lines of an input. One area has the line in front, and behind it what was read and not passed on yet.
-ghost use Rattle.std.specs.Prelude.{◌≡◌, ◌+◌, ◌≤◌, length};
-ghost use Rattle.lines.specs.Sizes.{line_size};
+// The lines of an input: what was read and not passed on yet, and the line that is made of it.
+ghost use Rattle.std.specs.Prelude.{◌≡◌, ◌≤◌, IfSome, length};
+ghost use Rattle.lines.specs.Sizes.{line_size, read_size};
 
 use std::io::Read;
 
 // One byte more than a line may have, so that the line is seen to be too long.
 const LINE_SIZE: usize = 65;
 
-// What is unread: from `at` to `end` of what was read.
-#[derive(Clone, Copy)]
-pub struct Unread {
-    pub at: usize,
-    pub end: usize,
+// The most bytes of one read.
+const READ_SIZE: usize = 4096;
+
+// In fixed memory; std's readers of lines allocate.
+#[derive(Drop)]
+pub struct Lines<R> {
+    reader: R,
+    // What was read; unread of it is what stands from `at` to `end`.
+    read: [u8; READ_SIZE],
+    at: usize,
+    end: usize,
+    line: [u8; LINE_SIZE],
+    used: usize,
+    ghost in_order: { at ≤ end },
+    ghost in_read: { end ≤ read_size },
+    ghost in_line: { used ≤ line_size },
 }
 
-// A line, if there was one: how many bytes it takes, and what is unread behind it.
-#[derive(Clone, Copy)]
-pub struct Line {
-    pub there: bool,
-    pub used: usize,
-    pub rest: Unread,
-}
-
-// What is unread; where that is nothing, what a read gives, and at the end of the input nothing. A read that fails is an end.
-fn ready<R: Read>(reader: &mut R, input: &mut [u8], rest: Unread) -> Unread
-    requires { line_size ≤ length input.old }
-    ensures { line_size + result.end ≤ length input.old }
-{
-    if rest.end <= input.len() - LINE_SIZE {
-        if rest.at < rest.end {
-            return rest;
+impl<R: Read> Lines<R> {
+    // At first nothing is unread.
+    pub fn new(reader: R) -> Lines<R>
+        ensures { result.at ≡ result.end }
+    {
+        Lines {
+            reader,
+            read: [0; READ_SIZE],
+            at: 0,
+            end: 0,
+            line: [0; LINE_SIZE],
+            used: 0,
         }
     }
-    let got = reader.read(&mut input[LINE_SIZE..]);
-    Unread {
-        at: 0,
-        end: got.unwrap_or(0),
-    }
-}
 
-// A further byte of the line; one that finds no room is left out.
-fn keep(input: &mut [u8], used: usize, b: u8) -> usize
-    requires { (line_size ≤ length input.old) × (used ≤ line_size) }
-    ensures { result ≤ line_size }
-{
-    if used == LINE_SIZE {
-        return used;
+    // What a read gives; at the end of the input nothing. A read that fails is an end.
+    fn fill(&mut self) {
+        self.at = 0;
+        self.end = self.reader.read(&mut self.read).unwrap_or(0);
     }
-    input[used] = b;
-    used + 1
-}
 
-// The line that ends where the input does, or at a newline.
-fn ended(there: bool, used: usize, rest: Unread) -> Line
-    ensures { result.used ≡ used }
-{
-    Line {
-        there: there,
-        used: used,
-        rest: rest,
-    }
-}
-
-// The next line. A proved loop has to end, so the bytes are counted down.
-fn take<R: Read>(reader: &mut R, input: &mut [u8], from: Unread) -> Line
-    requires { line_size ≤ length input.old }
-    ensures { result.used ≤ line_size }
-{
-    let mut rest = from;
-    let mut used = 0;
-    let mut left = u64::MAX;
-    while 0 < left {
-        let r = ready(reader, input, rest);
-        let at = r.at;
-        if r.end <= at {
-            return ended(0 < used, used, r);
+    // The next byte of the input, if there is one.
+    fn byte(&mut self) -> Option<u8> {
+        if self.at == self.end {
+            self.fill();
         }
-        let b = input[LINE_SIZE + at];
-        rest = Unread {
-            at: at + 1,
-            end: r.end,
-        };
-        if b == b'\n' {
-            return ended(true, used, rest);
+        if self.at == self.end {
+            return None;
         }
-        used = keep(input, used, b);
-        left -= 1;
+        let b = self.read[self.at];
+        self.at += 1;
+        Some(b)
     }
-    ended(true, used, rest)
-}
 
-// The next line, in front of an area; an area that has no room for one gets none.
-pub fn next<R: Read>(reader: &mut R, input: &mut [u8], from: Unread) -> Line
-    ensures { result.used ≤ length input.old }
-{
-    if input.len() < LINE_SIZE {
-        return ended(false, 0, from);
+    // A further byte of the line; one that finds no room is left out.
+    fn keep(&mut self, b: u8) {
+        if self.used < LINE_SIZE {
+            self.line[self.used] = b;
+            self.used += 1;
+        }
     }
-    take(reader, input, from)
+
+    // Whether there is a line: it ends at a newline or where the input does. A proved loop has to end, so there is a last byte.
+    fn take(&mut self) -> bool {
+        for _ in 0..u64::MAX {
+            match self.byte() {
+                None => return 0 < self.used,
+                Some(b'\n') => return true,
+                Some(b) => self.keep(b),
+            }
+        }
+        true
+    }
+
+    // The next line, if there is one.
+    pub fn next(&mut self) -> Option<&[u8]>
+        ensures { IfSome result (λ line. length line.now ≤ line_size) }
+    {
+        self.used = 0;
+        if self.take() {
+            return Some(&self.line[..self.used]);
+        }
+        None
+    }
 }

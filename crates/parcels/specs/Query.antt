@@ -1,11 +1,13 @@
 -- Document 01, "Bench": the query of a line that sends; keys are padded with zeros.
-use Rattle.std.specs.Prelude.{ℕ, ◌+◌, ◌-◌, List, ◌++◌, length, replicate}
+use Rattle.std.specs.Prelude.{ℕ, ◌+◌, ◌-◌, List, ◌++◌, length, replicate, Result}
 use Rattle.wire.specs.Numbers.{left}
 use Rattle.wire.specs.Version.{stamp, version}
 use Rattle.wire.specs.Packet.{Packet, packet, query, key_size, outlet_size, write_call, sent_in}
 use Rattle.wire.specs.declared.Head.{Head}
 use Rattle.script.specs.Words.{key_of, value_of}
-use Rattle.parcels.specs.Sizes.{relay}
+use Rattle.lines.specs.declared.output.Place.TheVariants.{Relay}
+use Rattle.parcels.specs.declared.Fault.{Fault}
+use Rattle.parcels.specs.declared.Parcels.{Parcels}
 use Rattle.parcels.specs.Parcels.{count_of, KeepGives}
 
 -- the key of a line, padded
@@ -34,5 +36,5 @@ unfoldable pub outlet_of : Packet → List ℕ
 outlet_of p = left (replicate outlet_size 0) (sent_in (replicate outlet_size 0)) (write_call (replicate outlet_size 0) p)
 
 -- what a line that sends promises: its query is kept for the relay, and its request number is the parcel's
-abbrev pub SendGives : List ℕ → ℕ → List ℕ → ℕ → List ℕ → Type 0
-SendGives area op line number area' = KeepGives area relay (outlet_of (query_for op (count_of area + 1) line)) number area'
+abbrev pub SendGives : Parcels → ℕ → List ℕ → Result (Unit {0}) Fault → Parcels → Type 0
+SendGives ps op line outcome ps' = KeepGives ps Relay (outlet_of (query_for op (count_of ps + 1) line)) outcome ps'

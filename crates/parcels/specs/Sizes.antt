@@ -1,29 +1,13 @@
--- How many parcels there can be, how large their area is, who a parcel goes to that goes to no node, and the bench's number for a line not understood.
-use Rattle.std.specs.Prelude.{ℕ, ◌+◌, ◌*◌}
-use Rattle.wire.specs.Packet.{outlet_size}
+-- How many parcels there can be, and the bench's own numbers of a fault.
+use Rattle.std.specs.Prelude.{ℕ}
 
 abbrev pub most_parcels : ℕ
 most_parcels = 64
 
--- where a parcel goes, and its packet
-abbrev pub to_size : ℕ
-to_size = 2
+-- the node is halted
+abbrev pub halted : ℕ
+halted = 23
 
-abbrev pub parcel_size : ℕ
-parcel_size = to_size + outlet_size
-
--- the parcels, and how many there are
-abbrev pub count_at : ℕ
-count_at = parcel_size * most_parcels
-
-abbrev pub area_size : ℕ
-area_size = count_at + 1
-
-abbrev pub client : ℕ
-client = 0
-
-abbrev pub relay : ℕ
-relay = 65535
-
+-- the line is not understood
 abbrev pub unclear : ℕ
 unclear = 24

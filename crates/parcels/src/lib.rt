@@ -1,204 +1,207 @@
-// The bench's parcels, side by side in one area: of each where it goes, and its packet. Behind them is how many there are.
+// The bench's parcels: of each where it goes, and its packet. None ever vanishes.
 #![tactic(auto)]
 
-ghost use Rattle.std.specs.Prelude.{◌≡◌, ◌+◌, ◌≤◌, ◌<◌, length};
-ghost use Rattle.wire.specs.Packet.{front_size, outlet_size, value_of};
-ghost use Rattle.script.specs.Sizes.{most_text};
-ghost use Rattle.script.specs.Words as words;
-ghost use Rattle.parcels.specs.Sizes.{most_parcels, area_size};
-ghost use Rattle.parcels.specs.Parcels.{bounded, count_of, part_in, to_of, packet_at, destination_of, placed, KeepGives};
+ghost use Rattle.std.specs.Prelude.{◌≡◌, ◌≤◌, length};
+ghost use Rattle.std.specs.Option.{option_copied};
+ghost use Rattle.wire.specs.Packet.{op_number};
+ghost use Rattle.parcels.specs.Sizes.{most_parcels};
+ghost use Rattle.parcels.specs.Parcels.{number_of, count_of, part_of, to_of, packet_in, packet_at, destination_of, KeepGives};
 ghost use Rattle.parcels.specs.Query.{padded_key, query_of, SendGives};
 
-use lines::output::{CLIENT, RELAY};
-use wire::{FRONT_SIZE, Head, KEY_SIZE, OUTLET_SIZE, QUERY, Stamp, Version};
+use lines::output::{Made, Place};
+use wire::{Answer, FRONT_SIZE, Head, KEY_SIZE, OUTLET_SIZE, Op, Stamp, Version};
 
-// The bench's own numbers, tried first, and the second before the first.
-pub const HALTED: u8 = 23;
+// Why a line failed: a refusal, by the number that the register's exports give, or the bench's own reasons, tried first, and the second before the first.
+#[derive(Clone, Copy)]
+pub enum Fault {
+    Refused(u8),
+    Halted,
+    Unclear,
+}
 
-pub const UNCLEAR: u8 = 24;
+impl From<Fault> for u8 {
+    fn from(fault: Fault) -> u8
+        ensures { result ≡ number_of fault }
+    {
+        match fault {
+            Fault::Refused(number) => number,
+            Fault::Halted => 23,
+            Fault::Unclear => 24,
+        }
+    }
+}
 
 const MOST_PARCELS: usize = 64;
-
-const TO_SIZE: usize = 2;
-
-const PARCEL_SIZE: usize = TO_SIZE + OUTLET_SIZE;
-
-const COUNT_AT: usize = PARCEL_SIZE * MOST_PARCELS;
-
-pub const AREA_SIZE: usize = COUNT_AT + 1;
-
-pub type Area = [u8; AREA_SIZE];
 
 // Room for a packet that a step makes.
 pub type Outlet = [u8; OUTLET_SIZE];
 
-// ---- the area
-
-// A count, but no more than there can be.
-fn bounded(n: u8) -> usize
-    ensures { result ≡ bounded n }
-{
-    let n = n as usize;
-    if n < MOST_PARCELS { n } else { MOST_PARCELS }
+// Where a parcel goes, and the outlet that begins with its packet.
+#[derive(Clone, Copy)]
+pub struct Parcel {
+    pub to: Place,
+    pub outlet: Outlet,
 }
 
-// How many parcels there are.
-pub fn count(area: &Area) -> usize
-    ensures { result ≡ count_of area.now }
-{
-    bounded(area[COUNT_AT])
-}
-
-// The part of a parcel; nothing where none of the n has that number.
-fn part(area: &[u8], n: usize, p: usize) -> &[u8]
-    requires { (length area.now ≡ area_size) × (n ≤ most_parcels) }
-    ensures { result.now ≡ part_in area.now n p }
-{
-    if p == 0 {
-        return &area[..0];
+impl Parcel {
+    #[tactic(auto, using(crate::proofs::Laws::value_fits, crate::proofs::Laws::packet_cut), unfolding(crate::specs::Parcels::packet_in))]
+    fn packet(&self) -> &[u8]
+        ensures { result.now ≡ packet_in self.now.outlet }
+    {
+        &self.outlet[..FRONT_SIZE + packet::value_of(&self.outlet).len()]
     }
-    if n < p {
-        return &area[..0];
+}
+
+// All parcels, side by side in fixed memory; no more of them than there is room for, whatever the count says.
+#[derive(Drop)]
+pub struct Parcels {
+    pub parcels: [Parcel; MOST_PARCELS],
+    pub count: u8,
+}
+
+impl Parcels {
+    #[tactic(auto, unfolding(crate::specs::Parcels::count_of, crate::specs::Parcels::bounded, wire::specs::Numbers::pick))]
+    pub fn new() -> Parcels
+        ensures { count_of result ≡ 0 }
+    {
+        let none = Parcel {
+            to: Place::Client,
+            outlet: [0; OUTLET_SIZE],
+        };
+        Parcels {
+            parcels: [none; MOST_PARCELS],
+            count: 0,
+        }
     }
-    let e = PARCEL_SIZE * p;
-    &area[e - PARCEL_SIZE..e]
-}
 
-// Where a parcel goes; where there is no such parcel, to a client.
-fn to(area: &Area, p: usize) -> u16
-    ensures { result ≡ to_of area.now p }
-{
-    let s = part(area, count(area), p);
-    if s.len() < TO_SIZE {
-        return CLIENT;
+    // How many parcels there are.
+    #[tactic(auto, unfolding(crate::specs::Parcels::count_of, crate::specs::Parcels::bounded, wire::specs::Numbers::pick))]
+    pub fn count(&self) -> usize
+        ensures value { result ≡ count_of self.now }
+        ensures bound { result ≤ most_parcels }
+    {
+        usize::from(self.count).min(MOST_PARCELS)
     }
-    be::read(s, 0)
-}
 
-// The value of the packet that an area begins with.
-fn value(area: &[u8]) -> &[u8]
-    requires { outlet_size ≤ length area.now }
-    ensures { (result.now ≡ value_of area.now) × (front_size + length result.now ≤ length area.now) }
-{
-    packet::value_of(area)
-}
-
-// The length of that packet.
-fn size(area: &[u8]) -> usize
-    requires { outlet_size ≤ length area.now }
-    ensures { (result ≡ front_size + length (value_of area.now)) × (result ≤ length area.now) }
-{
-    FRONT_SIZE + value(area).len()
-}
-
-// The packet of a parcel; nothing where there is no such parcel.
-pub fn packet_of(area: &Area, p: usize) -> &[u8]
-    ensures { result.now ≡ packet_at area.now p }
-{
-    let s = part(area, count(area), p);
-    if s.len() < PARCEL_SIZE {
-        return s;
+    // A parcel by its number, from 1 on.
+    #[tactic(auto, unfolding(crate::specs::Parcels::part_of, crate::specs::Parcels::part_in, wire::specs::Numbers::pick))]
+    fn part(&self, p: usize) -> Option<&Parcel>
+        ensures { option_copied result ≡ part_of self.now p }
+    {
+        if p == 0 || self.count() < p {
+            return None;
+        }
+        self.parcels.get(p - 1)
     }
-    let e = TO_SIZE + size(&s[TO_SIZE..]);
-    &s[TO_SIZE..e]
-}
 
-// Where a parcel is delivered to; to a client, so nowhere, where there is no such parcel or no room for another.
-pub fn destination(area: &Area, p: usize) -> u16
-    ensures { result ≡ destination_of area.now p }
-{
-    if count(area) == MOST_PARCELS {
-        return CLIENT;
+    // Where a parcel goes; where there is no such parcel, to a client.
+    #[tactic(auto, unfolding(crate::specs::Parcels::to_of))]
+    fn to(&self, p: usize) -> Place
+        ensures { result ≡ to_of self.now p }
+    {
+        match self.part(p) {
+            Some(parcel) => parcel.to,
+            None => Place::Client,
+        }
     }
-    to(area, p)
-}
 
-// ---- a parcel more
-
-// The parcel after n others.
-fn put(area: &mut [u8], n: usize, to: u16, outlet: Outlet)
-    requires { (length area.old ≡ area_size) × (n < most_parcels) }
-    ensures { area.new ≡ placed area.old n to outlet }
-{
-    let at = PARCEL_SIZE * n;
-    be::put(area, at, to);
-    be::put_bytes(area, at + TO_SIZE, &outlet[..]);
-    be::put(area, COUNT_AT, (n + 1) as u8);
-}
-
-// The packet in an outlet becomes a parcel, if there is room.
-pub fn keep(area: &mut Area, to: u16, outlet: Outlet) -> u8
-    ensures { KeepGives area.old to outlet result area.new }
-{
-    let n = count(area);
-    if n == MOST_PARCELS {
-        return UNCLEAR;
+    // The packet of a parcel; nothing where there is no such parcel.
+    #[tactic(auto, unfolding(crate::specs::Parcels::packet_at))]
+    pub fn packet_of(&self, p: usize) -> &[u8]
+        ensures { result.now ≡ packet_at self.now p }
+    {
+        match self.part(p) {
+            Some(parcel) => parcel.packet(),
+            None => &[],
+        }
     }
-    put(area, n, to, outlet);
-    0
+
+    // Where a parcel is delivered to; to a client, so nowhere, where there is no such parcel or no room for another.
+    #[tactic(auto, unfolding(crate::specs::Parcels::destination_of, wire::specs::Numbers::pick))]
+    pub fn destination(&self, p: usize) -> Place
+        ensures { result ≡ destination_of self.now p }
+    {
+        if self.count() == MOST_PARCELS {
+            return Place::Client;
+        }
+        self.to(p)
+    }
+
+    // The packet in an outlet becomes a parcel, if there is room.
+    #[tactic(auto, unfolding(crate::specs::Parcels::keep_outcome, crate::specs::Parcels::kept, crate::specs::Parcels::placed, wire::specs::Numbers::pick))]
+    pub fn keep(&mut self, to: Place, outlet: Outlet) -> Result<(), Fault>
+        ensures { KeepGives self.old to outlet result self.new }
+    {
+        let n = self.count();
+        if n == MOST_PARCELS {
+            return Err(Fault::Unclear);
+        }
+        self.parcels[n] = Parcel { to, outlet };
+        self.count = n as u8 + 1;
+        Ok(())
+    }
+
+    // The query of a line that sends.
+    pub fn send(&mut self, op: Op, line: &[u8]) -> Result<(), Fault>
+        ensures { SendGives self.old (op_number op) line.now result self.new }
+    {
+        let key = key(line);
+        let value = script::value(line);
+        let mut outlet = [0u8; OUTLET_SIZE];
+        let h = query(op as u8, self.count() as u32 + 1, value.len() as u8);
+        let _ = packet::write(&mut outlet, h, &key, value);
+        self.keep(Place::Relay, outlet)
+    }
+
+    // The parcel made since there were n, if one was.
+    fn made(&self, n: usize) -> Option<Made<'_>> {
+        let parcel = self.count();
+        if parcel <= n {
+            return None;
+        }
+        Some(Made {
+            parcel,
+            to: self.to(parcel),
+            packet: self.packet_of(parcel),
+        })
+    }
+
+    // Writes what a line gave, with the parcel made since there were n.
+    pub fn tell(&self, rt: &impl Print, line: u64, outcome: Result<(), Fault>, n: usize) {
+        let number = match outcome {
+            Ok(()) => 0,
+            Err(fault) => u8::from(fault),
+        };
+        lines::output::tell(rt, line, number, self.made(n));
+    }
 }
+
+// ---- the query of a line that sends
 
 // A client's packet for the relay.
+#[tactic(auto, unfolding(crate::specs::Query::query_of))]
 fn query(op: u8, request: u32, length: u8) -> Head
     ensures { result ≡ query_of op request length }
 {
     Head {
-        op: op,
-        answer: QUERY,
+        op,
+        answer: Answer::Query as u8,
         from: 0,
         to: 0,
         client: 1,
-        request: request,
+        request,
         stamp: Stamp(0),
         version: Version::new(0, 0),
-        length: length,
+        length,
     }
-}
-
-// The key and the value of a line that sends; nothing where it has none.
-fn named(line: &[u8]) -> &[u8]
-    ensures { (result.now ≡ words.key_of line.now) × (length result.now ≤ most_text) }
-{
-    script::key(line)
-}
-
-fn written(line: &[u8]) -> &[u8]
-    ensures { (result.now ≡ words.value_of line.now) × (length result.now ≤ most_text) }
-{
-    script::value(line)
 }
 
 // The key of a line, padded with zeros.
 pub fn key(line: &[u8]) -> [u8; KEY_SIZE]
     ensures { result ≡ padded_key line.now }
 {
+    let text = script::key(line);
     let mut key = [0u8; KEY_SIZE];
-    be::put_bytes(&mut key, 0, named(line));
+    key[..text.len()].copy_from_slice(text);
     key
-}
-
-// The query of a line that sends.
-pub fn send(area: &mut Area, op: u8, line: &[u8]) -> u8
-    ensures { SendGives area.old op line.now result area.new }
-{
-    let key = key(line);
-    let value = written(line);
-    let mut outlet = [0u8; OUTLET_SIZE];
-    let h = query(op, count(area) as u32 + 1, value.len() as u8);
-    packet::write(&mut outlet, h, &key, value);
-    keep(area, RELAY, outlet)
-}
-
-// ---- what is told
-
-// The parcel made since there were n; 0 where none was.
-fn made(area: &Area, n: usize) -> usize {
-    let now = count(area);
-    if n < now { now } else { 0 }
-}
-
-// Writes what a line gave, with the parcel made since there were n.
-pub fn tell(rt: &impl Print, area: &Area, line: u64, number: u8, n: usize) {
-    let p = made(area, n);
-    lines::output::tell(rt, line, number, p, to(area, p), packet_of(area, p));
 }

@@ -1,7 +1,8 @@
 -- Document 01, "Bench": the command that the words of a line make.
-use Rattle.std.specs.Prelude.{ℕ, true, false, ◌||◌, List, [], ◌∷◌, length, eqb, ltb}
+use Rattle.std.specs.Prelude.{ℕ, Option, ◌||◌, List, [], ◌∷◌, length, eqb, ltb}
 use Rattle.wire.specs.Numbers.{pick, eqs}
-use Rattle.wire.specs.Packet.{op_read, op_write, op_delete}
+use Rattle.wire.specs.declared.Op.TheVariants.{Read, Write, Delete}
+use Rattle.script.specs.declared.Side.TheVariants.{Before, After}
 use Rattle.script.specs.declared.Order.TheVariants.{Open, Fence, Copy, Activate, Cancel, Remove}
 use Rattle.script.specs.declared.Command.{Command}
 use Rattle.script.specs.declared.Command.TheVariants.{Enter, Send, Deliver, Halt, Rule, Unclear}
@@ -19,7 +20,7 @@ of_one w =
     (pick (eqs w (99 ∷ 97 ∷ 110 ∷ 99 ∷ 101 ∷ 108 ∷ [])) (Rule Cancel) Unclear)))
 
 -- deliver P, halt N, remove N
-unfoldable pub of_two : List ℕ → ℕ → Command
+unfoldable pub of_two : List ℕ → Option ℕ → Command
 of_two w n =
     pick (eqs w (100 ∷ 101 ∷ 108 ∷ 105 ∷ 118 ∷ 101 ∷ 114 ∷ [])) (Deliver n)
     (pick (eqs w (104 ∷ 97 ∷ 108 ∷ 116 ∷ [])) (Halt n)
@@ -27,7 +28,7 @@ of_two w n =
 
 -- send r K, send d K, by the second word
 unfoldable pub bare_of : List ℕ → Command
-bare_of x = pick (eqs x (114 ∷ [])) (Send op_read) (pick (eqs x (100 ∷ [])) (Send op_delete) Unclear)
+bare_of x = pick (eqs x (114 ∷ [])) (Send Read) (pick (eqs x (100 ∷ [])) (Send Delete) Unclear)
 
 -- enter N K, and those; a third word that can be no key makes no command
 unfoldable pub of_three : List ℕ → List ℕ → List ℕ → Command
@@ -38,11 +39,11 @@ of_three w x k =
 
 -- send w K V, by the second word, the key and the value
 unfoldable pub write_of : List ℕ → List ℕ → List ℕ → Command
-write_of x k v = pick (eqb (length k) 0 || eqb (length v) 0) Unclear (pick (eqs x (119 ∷ [])) (Send op_write) Unclear)
+write_of x k v = pick (eqb (length k) 0 || eqb (length v) 0) Unclear (pick (eqs x (119 ∷ [])) (Send Write) Unclear)
 
 -- open b N M, open a N M, by the second word and the numbers
-unfoldable pub open_of : List ℕ → ℕ → ℕ → Command
-open_of x n m = pick (eqs x (98 ∷ [])) (Rule (Open false n m)) (pick (eqs x (97 ∷ [])) (Rule (Open true n m)) Unclear)
+unfoldable pub open_of : List ℕ → Option ℕ → Option ℕ → Command
+open_of x n m = pick (eqs x (98 ∷ [])) (Rule (Open Before n m)) (pick (eqs x (97 ∷ [])) (Rule (Open After n m)) Unclear)
 
 unfoldable pub of_four : List ℕ → Command
 of_four l =

@@ -9,6 +9,6 @@ most_line = 64
 abbrev pub most_text : ℕ
 most_text = 16
 
--- the number that no node and no parcel has
-abbrev pub no_such : ℕ
-no_such = 65
+-- the largest number that a node or a parcel can have
+abbrev pub most_number : ℕ
+most_number = 64

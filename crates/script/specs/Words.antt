@@ -1,7 +1,7 @@
 -- Document 01, "Bench": the words of a line, and what a word can be: a key or a value, or a number.
-use Rattle.std.specs.Prelude.{ℕ, zero, suc, ◌+◌, ◌-◌, ◌*◌, Bool, true, false, ◌&&◌, ◌||◌, List, [], ◌∷◌, length, take, drop, eqb, ltb, leb}
+use Rattle.std.specs.Prelude.{ℕ, zero, suc, ◌+◌, ◌-◌, ◌*◌, Bool, true, false, ◌&&◌, ◌||◌, List, [], ◌∷◌, length, take, drop, eqb, leb, Option, Some, None}
 use Rattle.wire.specs.Numbers.{pick}
-use Rattle.script.specs.Sizes.{most_text, no_such}
+use Rattle.script.specs.Sizes.{most_text, most_number}
 
 -- ---- words: what stands between single spaces, so a word may be empty
 
@@ -72,16 +72,16 @@ decimal n [] = n
 decimal n (x ∷ l) = decimal (n * 10 + (x - 48)) l
 
 -- a number too large for anything names nothing
-unfoldable pub capped : ℕ → ℕ
-capped n = pick (ltb n no_such) n no_such
+unfoldable pub capped : ℕ → Option ℕ
+capped n = pick (leb n most_number) (Some n) None
 
 -- the number with one more digit behind it
-unfoldable pub longer : ℕ → ℕ → ℕ
-longer n b = pick (is_digit b) (capped (n * 10 + (b - 48))) no_such
+unfoldable pub longer : ℕ → ℕ → Option ℕ
+longer n b = pick (is_digit b) (capped (n * 10 + (b - 48))) None
 
-unfoldable pub number_from : ℕ → List ℕ → ℕ
-number_from n l = pick (digits l) (capped (decimal n l)) no_such
+unfoldable pub number_from : ℕ → List ℕ → Option ℕ
+number_from n l = pick (digits l) (capped (decimal n l)) None
 
 -- the number that a word shows
-unfoldable pub number_of : List ℕ → ℕ
-number_of w = pick (eqb (length w) 0) no_such (number_from 0 w)
+unfoldable pub number_of : List ℕ → Option ℕ
+number_of w = pick (eqb (length w) 0) None (number_from 0 w)

@@ -1,306 +1,263 @@
 // A line of a script: its words, and the command that they make.
 #![tactic(auto)]
 
-ghost use Rattle.std.specs.Prelude.{◌≤◌, ◌≡◌, length, eqb};
-ghost use Rattle.wire.specs.Numbers.{pick, eqs};
-ghost use Rattle.script.specs.Sizes.{no_such};
-ghost use Rattle.script.specs.Words.{index_of, first_word, behind, word, word_count, is_digit, is_letter, plain, text_of, key_of, value_of, capped, longer, number_of};
+ghost use Rattle.std.specs.Prelude.{◌≤◌, ◌≡◌, length};
+ghost use Rattle.wire.specs.Numbers.{eqs};
+ghost use Rattle.script.specs.Sizes.{most_text, most_number};
+ghost use Rattle.script.specs.Words.{word, word_count, plain, text_of, key_of, value_of, capped, longer, number_of};
 ghost use Rattle.script.specs.Commands.{of_one, of_two, bare_of, of_three, write_of, open_of, of_four, of_count, command_of};
 
-use wire::{OP_DELETE, OP_READ, OP_WRITE};
+use wire::Op;
 
 // The most bytes of a line, and of a key or a value.
 const MOST_LINE: usize = 64;
 
 const MOST_TEXT: usize = 16;
 
-// No node and no parcel has this number.
-const NO_SUCH: u16 = 65;
+// The largest number that a node or a parcel can have.
+const MOST_NUMBER: u16 = 64;
 
-// The controller's steps, and all commands. Nodes and parcels by their numbers; key and value are parts of the line.
+// Where a new node goes: before the named one, or after it.
+#[derive(Clone, Copy)]
+pub enum Side {
+    Before,
+    After,
+}
+
+// The controller's steps, and all commands. Nodes and parcels by their numbers, where the word shows one; key and value are parts of the line.
 #[derive(Clone, Copy)]
 pub enum Order {
-    Open(bool, u16, u16),
+    Open(Side, Option<u16>, Option<u16>),
     Fence,
     Copy,
     Activate,
     Cancel,
-    Remove(u16),
+    Remove(Option<u16>),
 }
 
 #[derive(Clone, Copy)]
 pub enum Command {
-    Enter(u16),
-    Send(u8),
-    Deliver(u16),
-    Halt(u16),
+    Enter(Option<u16>),
+    Send(Op),
+    Deliver(Option<u16>),
+    Halt(Option<u16>),
     Rule(Order),
     Unclear,
 }
 
-// ---- words
+// ---- words: what stands between single spaces, so a word may be empty
 
-// Where the first space is, or the end of the line.
-fn gap(line: &[u8]) -> usize
-    ensures { (result ≡ index_of 32 line.now) × (result ≤ length line.now) }
+// Word n, from 0 on; empty where there are fewer words.
+fn word(line: &[u8], n: usize) -> &[u8]
+    ensures { result.now ≡ word n line.now }
 {
-    for (i, b) in line.iter().enumerate() {
-        if *b == b' ' {
-            return i;
-        }
-    }
-    line.len()
-}
-
-// The first word. Words are what stands between single spaces, so a word may be empty.
-fn first(line: &[u8]) -> &[u8]
-    ensures { result.now ≡ first_word line.now }
-{
-    let e = gap(line);
-    &line[0..e]
-}
-
-// What stands behind the first word and its space.
-fn rest(line: &[u8]) -> &[u8]
-    ensures { result.now ≡ behind line.now }
-{
-    let e = gap(line);
-    if e == line.len() {
-        return &line[e..];
-    }
-    &line[e + 1..]
-}
-
-fn second(line: &[u8]) -> &[u8]
-    ensures { result.now ≡ word 1 line.now }
-{
-    first(rest(line))
-}
-
-fn third(line: &[u8]) -> &[u8]
-    ensures { result.now ≡ word 2 line.now }
-{
-    second(rest(line))
-}
-
-fn fourth(line: &[u8]) -> &[u8]
-    ensures { result.now ≡ word 3 line.now }
-{
-    third(rest(line))
-}
-
-fn counted(b: u8) -> usize
-    ensures { (result ≡ pick (eqb b 32) 1 0) × (result ≤ 1) }
-{
-    if b == b' ' { 1 } else { 0 }
+    line.split(|b| *b == b' ').nth(n).unwrap_or(&[])
 }
 
 fn count(line: &[u8]) -> usize
     ensures { result ≡ word_count line.now }
 {
-    let mut n = 1;
-    let mut i = 0;
-    while i < line.len() {
-        n += counted(line[i]);
-        i += 1;
-    }
-    n
-}
-
-fn same(a: &[u8], b: &[u8]) -> bool
-    ensures { result ≡ eqs a.now b.now }
-{
-    if a.len() != b.len() {
-        return false;
-    }
-    let mut so = true;
-    let mut i = 0;
-    while i < a.len() {
-        so = so & (a[i] == b[i]);
-        i += 1;
-    }
-    so
+    line.split(|b| *b == b' ').count()
 }
 
 // ---- numbers, keys and values
 
-fn is_digit(b: u8) -> bool
-    ensures { result ≡ is_digit b }
-{
-    (b'0' <= b) & (b <= b'9')
-}
-
-fn is_letter(b: u8) -> bool
-    ensures { result ≡ is_letter b }
-{
-    ((b'a' <= b) & (b <= b'z')) | ((b'A' <= b) & (b <= b'Z'))
-}
-
-fn cap(n: u16) -> u16
+#[tactic(auto, unfolding(wire::specs::Numbers::pick, crate::specs::Words::capped))]
+fn cap(n: u16) -> Option<u16>
     ensures { result ≡ capped n }
 {
-    if n < NO_SUCH { n } else { NO_SUCH }
+    if n <= MOST_NUMBER { Some(n) } else { None }
 }
 
-// The number with a digit more; NO_SUCH for what is no digit, and once the number is over.
-fn more(n: u16, b: u8) -> u16
-    requires { n ≤ no_such }
+// The number with a digit more; none for what is no digit, and once the number is over.
+#[tactic(auto, unfolding(wire::specs::Numbers::pick, crate::specs::Words::longer))]
+fn more(n: u16, b: u8) -> Option<u16>
+    requires { n ≤ most_number }
     ensures { result ≡ longer n b }
 {
-    if is_digit(b) {
-        return cap(n * 10 + (b - b'0') as u16);
+    if b.is_ascii_digit() {
+        return cap(n * 10 + u16::from(b - b'0'));
     }
-    NO_SUCH
+    None
 }
 
-// The number that a word shows, NO_SUCH where it shows none or a larger one.
-fn number(w: &[u8]) -> u16
+// The number that a word shows, if it shows one that is not too large; `parse` would take a sign too.
+#[tactic(auto, using(crate::proofs::Laws::number_turn, crate::proofs::Laws::number_end), unfolding(wire::specs::Numbers::pick, crate::specs::Words::number_of))]
+fn number(w: &[u8]) -> Option<u16>
     ensures { result ≡ number_of w.now }
 {
-    if w.len() == 0 {
-        return NO_SUCH;
+    if w.is_empty() {
+        return None;
     }
     let mut n = 0;
-    let mut i = 0;
-    while i < w.len() {
-        n = more(n, w[i]);
-        i += 1;
+    for b in w {
+        n = more(n, *b)?;
     }
-    n
+    Some(n)
 }
 
 fn is_plain(w: &[u8]) -> bool
     ensures { result ≡ plain w.now }
 {
-    let mut so = true;
-    let mut i = 0;
-    while i < w.len() {
-        so = so & (is_digit(w[i]) | is_letter(w[i]));
-        i += 1;
-    }
-    so
+    w.iter().all(|b| b.is_ascii_alphanumeric())
 }
 
 // A word where it can be a key or a value; else nothing.
+#[tactic(auto, using(crate::proofs::Laws::text_fits), unfolding(wire::specs::Numbers::pick, crate::specs::Words::text_of))]
 fn text(w: &[u8]) -> &[u8]
-    ensures { result.now ≡ text_of w.now }
+    ensures value { result.now ≡ text_of w.now }
+    ensures bound { length result.now ≤ most_text }
 {
-    if (w.len() <= MOST_TEXT) & is_plain(w) {
+    if w.len() <= MOST_TEXT && is_plain(w) {
         return w;
     }
-    &w[..0]
+    &[]
 }
 
 // The key of a line, where its third word can be one.
 pub fn key(line: &[u8]) -> &[u8]
-    ensures { result.now ≡ key_of line.now }
+    ensures value { result.now ≡ key_of line.now }
+    ensures bound { length result.now ≤ most_text }
 {
-    text(third(line))
+    text(word(line, 2))
 }
 
 // The value of a line, where its fourth word can be one.
 pub fn value(line: &[u8]) -> &[u8]
-    ensures { result.now ≡ value_of line.now }
+    ensures value { result.now ≡ value_of line.now }
+    ensures bound { length result.now ≤ most_text }
 {
-    text(fourth(line))
+    text(word(line, 3))
 }
 
 // ---- commands, by how many words they have
 
-fn choose(b: bool, x: Command, y: Command) -> Command
-    ensures { result ≡ pick b x y }
+// A match on byte strings would be a case for each byte to the check.
+fn same(a: &[u8], b: &[u8]) -> bool
+    ensures { result ≡ eqs a.now b.now }
 {
-    if b { x } else { y }
+    a == b
 }
 
+#[tactic(auto, unfolding(wire::specs::Numbers::pick, crate::specs::Commands::of_one))]
 fn of_one(w: &[u8]) -> Command
     ensures { result ≡ of_one w.now }
 {
-    let a = choose(
-        same(w, b"cancel"),
-        Command::Rule(Order::Cancel),
-        Command::Unclear,
-    );
-    let b = choose(same(w, b"activate"), Command::Rule(Order::Activate), a);
-    let c = choose(same(w, b"copy"), Command::Rule(Order::Copy), b);
-    choose(same(w, b"fence"), Command::Rule(Order::Fence), c)
+    if same(w, b"fence") {
+        Command::Rule(Order::Fence)
+    } else if same(w, b"copy") {
+        Command::Rule(Order::Copy)
+    } else if same(w, b"activate") {
+        Command::Rule(Order::Activate)
+    } else if same(w, b"cancel") {
+        Command::Rule(Order::Cancel)
+    } else {
+        Command::Unclear
+    }
 }
 
-fn of_two(w: &[u8], n: u16) -> Command
+#[tactic(auto, unfolding(wire::specs::Numbers::pick, crate::specs::Commands::of_two))]
+fn of_two(w: &[u8], n: Option<u16>) -> Command
     ensures { result ≡ of_two w.now n }
 {
-    let a = choose(
-        same(w, b"remove"),
-        Command::Rule(Order::Remove(n)),
-        Command::Unclear,
-    );
-    let b = choose(same(w, b"halt"), Command::Halt(n), a);
-    choose(same(w, b"deliver"), Command::Deliver(n), b)
+    if same(w, b"deliver") {
+        Command::Deliver(n)
+    } else if same(w, b"halt") {
+        Command::Halt(n)
+    } else if same(w, b"remove") {
+        Command::Rule(Order::Remove(n))
+    } else {
+        Command::Unclear
+    }
 }
 
 // A query that has no value.
+#[tactic(auto, unfolding(wire::specs::Numbers::pick, crate::specs::Commands::bare_of))]
 fn bare(x: &[u8]) -> Command
     ensures { result ≡ bare_of x.now }
 {
-    let a = choose(same(x, b"d"), Command::Send(OP_DELETE), Command::Unclear);
-    choose(same(x, b"r"), Command::Send(OP_READ), a)
+    if same(x, b"r") {
+        Command::Send(Op::Read)
+    } else if same(x, b"d") {
+        Command::Send(Op::Delete)
+    } else {
+        Command::Unclear
+    }
 }
 
+#[tactic(auto, unfolding(wire::specs::Numbers::pick, crate::specs::Commands::of_three))]
 fn of_three(w: &[u8], x: &[u8], k: &[u8]) -> Command
     ensures { result ≡ of_three w.now x.now k.now }
 {
-    let a = choose(same(w, b"send"), bare(x), Command::Unclear);
-    let b = choose(same(w, b"enter"), Command::Enter(number(x)), a);
-    choose(k.len() == 0, Command::Unclear, b)
+    if k.is_empty() {
+        Command::Unclear
+    } else if same(w, b"enter") {
+        Command::Enter(number(x))
+    } else if same(w, b"send") {
+        bare(x)
+    } else {
+        Command::Unclear
+    }
 }
 
+#[tactic(auto, unfolding(wire::specs::Numbers::pick, crate::specs::Commands::write_of))]
 fn write(x: &[u8], k: &[u8], v: &[u8]) -> Command
     ensures { result ≡ write_of x.now k.now v.now }
 {
-    let a = choose(same(x, b"w"), Command::Send(OP_WRITE), Command::Unclear);
-    choose((k.len() == 0) | (v.len() == 0), Command::Unclear, a)
+    if k.is_empty() || v.is_empty() {
+        Command::Unclear
+    } else if same(x, b"w") {
+        Command::Send(Op::Write)
+    } else {
+        Command::Unclear
+    }
 }
 
-fn open(x: &[u8], named: u16, fresh: u16) -> Command
+#[tactic(auto, unfolding(wire::specs::Numbers::pick, crate::specs::Commands::open_of))]
+fn open(x: &[u8], named: Option<u16>, fresh: Option<u16>) -> Command
     ensures { result ≡ open_of x.now named fresh }
 {
-    let a = choose(
-        same(x, b"a"),
-        Command::Rule(Order::Open(true, named, fresh)),
-        Command::Unclear,
-    );
-    choose(
-        same(x, b"b"),
-        Command::Rule(Order::Open(false, named, fresh)),
-        a,
-    )
+    if same(x, b"b") {
+        Command::Rule(Order::Open(Side::Before, named, fresh))
+    } else if same(x, b"a") {
+        Command::Rule(Order::Open(Side::After, named, fresh))
+    } else {
+        Command::Unclear
+    }
 }
 
+#[tactic(auto, unfolding(wire::specs::Numbers::pick, crate::specs::Commands::of_four))]
 fn of_four(line: &[u8]) -> Command
     ensures { result ≡ of_four line.now }
 {
-    let w = first(line);
-    let x = second(line);
-    let a = open(x, number(third(line)), number(fourth(line)));
-    let b = choose(same(w, b"open"), a, Command::Unclear);
-    choose(same(w, b"send"), write(x, key(line), value(line)), b)
+    let w = word(line, 0);
+    let x = word(line, 1);
+    if same(w, b"send") {
+        write(x, key(line), value(line))
+    } else if same(w, b"open") {
+        open(x, number(word(line, 2)), number(word(line, 3)))
+    } else {
+        Command::Unclear
+    }
 }
 
 // The command of a line of so many words.
+#[tactic(auto, unfolding(wire::specs::Numbers::pick, crate::specs::Commands::of_count))]
 fn made(line: &[u8], n: usize) -> Command
     ensures { result ≡ of_count line.now n }
 {
-    let w = first(line);
+    let w = word(line, 0);
     match n {
         1 => of_one(w),
-        2 => of_two(w, number(second(line))),
-        3 => of_three(w, second(line), key(line)),
+        2 => of_two(w, number(word(line, 1))),
+        3 => of_three(w, word(line, 1), key(line)),
         4 => of_four(line),
         _ => Command::Unclear,
     }
 }
 
 // The command of a line.
+#[tactic(auto, unfolding(wire::specs::Numbers::pick, crate::specs::Commands::command_of))]
 pub fn read(line: &[u8]) -> Command
     ensures { result ≡ command_of line.now }
 {

@@ -3,4 +3,4 @@ use Rattle.parcels.proofs.Laws.{key_padded}
 use Rattle.parcels.proofs.key.Goals as goal
 
 pub returns : goal.returns
-returns c = key_padded c.args.line.now _ _ c.named.ensures.0 c.named.ensures.1 c.put_bytes.ensures
+returns c = key_padded c.args.line.now c.key-text.result.now c.copy_from_slice.new.self c.key-text.ensures.value c.key-text.ensures.bound c.copy_from_slice.ensures.after

@@ -1,16 +1,15 @@
--- A byte more is counted, or there is none.
-use Rattle.std.proofs.Common.{◌∙◌, sym, ap, arith, ◌+◌, drop, ℕ}
-use Rattle.script.specs.Words.{spaces, word_count}
-use Rattle.script.proofs.Laws.{spaces_turn, spaces_end}
+-- There is one word more than there are spaces.
+use Rattle.std.proofs.Common.{rules, arith, eqb}
+use borrow.Author.Tests.{tests}
+use Rattle.std.proofs.lemmas.Iterator.Consumers.{count_from_yields_List}
+use Rattle.std.proofs.lemmas.Iterator.Splits.{YieldsList-from_slice_split}
+use Rattle.std.proofs.lemmas.List.Splits.{length-slice_split}
+use Rattle.script.specs.Words.{word_count}
+use Rattle.script.proofs.Laws.{spaces_are}
 use Rattle.script.proofs.count.Goals as goal
-
-pub loop-i-preserved : goal.loop-i-preserved
-loop-i-preserved c =
-    let l = c.loop-i in
-    let k = c.counted-n.ensures in
-    let turn = spaces_turn c.args.line.now l.i l.n (omega arith) ∙ ap (λ (m : ℕ). l.n + m + spaces (drop (l.i + 1) c.args.line.now)) (sym k.0) in
-    (omega arith, omega (arith, k.1), l.invariant.2 ∙ turn)
 
 pub returns : goal.returns
 unfolding word_count
-returns c = sym (c.loop-i.invariant.2 ∙ spaces_end c.args.line.now c.loop-i.i c.loop-i.n (omega arith))
+returns c =
+    let all = count_from_yields_List _ _ c.count.ensures.ran (YieldsList-from_slice_split _ (λ b. eqb b 32) c.args.line.now c.split.ensures.rest c.split.ensures.done c.split.ensures.closure (λ x b q k. search (rules, tests))) in
+    omega (arith, all, spaces_are c.args.line.now, length-slice_split (λ b. eqb b 32) c.args.line.now)
