@@ -20,9 +20,9 @@ pub enum Fault {
 }
 
 impl From<Fault> for u8 {
-    fn from(fault: Fault) -> u8
-        ensures { result ≡ number_of fault }
-    {
+    ghost from_gives = { λ fault n. n ≡ number_of fault };
+
+    fn from(fault: Fault) -> u8 {
         match fault {
             Fault::Refused(number) => number,
             Fault::Halted => 23,
