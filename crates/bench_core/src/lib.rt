@@ -57,7 +57,7 @@ impl World {
         let command = script::read(line);
         match command {
             Command::Enter(id) => self.enter(id.ok_or(Fault::Unclear)?, line),
-            Command::Send(op) => self.parcels.send(op, line),
+            Command::Send(op) => self.parcels.send(op as u8, line),
             Command::Deliver(p) => self.deliver(usize::from(p.ok_or(Fault::Unclear)?)),
             Command::Halt(id) => self.nodes.halt(id.ok_or(Fault::Unclear)?),
             Command::Rule(order) => self.change(order),

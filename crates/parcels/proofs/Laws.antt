@@ -8,10 +8,9 @@ use lib.ListN.{length, get_or, take, drop, replicate, length-take, length-drop, 
 use lib.Seq.{take-add, take-append_seam, drop_at}
 use lib.Dec.{ltb}
 use Rattle.std.specs.Prelude.{Result, slice_get}
-use Rattle.wire.specs.Numbers.{left}
+use Rattle.wire.specs.Numbers.{Out, left}
 use Rattle.wire.specs.Packet.{Packet, packet, front_size, key_size, outlet_size, length_at, value_of, write_call, sent_in, WriteGives}
 use Rattle.wire.specs.declared.Head.{Head}
-use Rattle.wire.specs.declared.Writing.{Writing}
 use Rattle.wire.proofs.Numbers.{pick_true, pick_case, reflects_yes, reflect_and, reflect_ltb, reflect_leb}
 use Rattle.script.specs.Words as words
 use Rattle.lines.specs.declared.output.Place.TheVariants.{Relay}
@@ -67,7 +66,7 @@ unfolding padded_key
 key_padded l k r e h f = ap₂ ◌++◌ (f ∙ e) (zeros_left (length k) key_size h ∙ ap (λ (t : List ℕ). replicate {A = ℕ} (key_size - length t) 0) e)
 
 -- what is written of it is what its line says
-pub sends : (a a' : Parcels) (l k v o : List ℕ) (op n : ℕ) (r : Result (Unit {0}) Fault) (h : Head) (w : Writing) → k ≡ padded_key l → v ≡ words.value_of l → n ≡ count_of a → h ≡ query_of op (n + 1) (length v)
+pub sends : (a a' : Parcels) (l k v o : List ℕ) (op n : ℕ) (r : Result (Unit {0}) Fault) (h : Head) (w : Out (Unit {0})) → k ≡ padded_key l → v ≡ words.value_of l → n ≡ count_of a → h ≡ query_of op (n + 1) (length v)
     → WriteGives (replicate outlet_size 0) (packet h k v) w o
     → KeepGives a Relay o r a'
     → SendGives a op l r a'

@@ -3,13 +3,12 @@
 
 ghost use Rattle.std.specs.Prelude.{◌≡◌, ◌≤◌, length};
 ghost use Rattle.std.specs.Option.{option_copied};
-ghost use Rattle.wire.specs.Packet.{op_number};
 ghost use Rattle.parcels.specs.Sizes.{most_parcels};
 ghost use Rattle.parcels.specs.Parcels.{number_of, count_of, part_of, to_of, packet_in, packet_at, destination_of, KeepGives};
 ghost use Rattle.parcels.specs.Query.{padded_key, query_of, SendGives};
 
 use lines::output::{Made, Place};
-use wire::{Answer, FRONT_SIZE, Head, KEY_SIZE, OUTLET_SIZE, Op, Stamp, Version};
+use wire::{Answer, FRONT_SIZE, Head, KEY_SIZE, OUTLET_SIZE, Stamp, Version};
 
 // Why a line failed: a refusal, by the number that the register's exports give, or the bench's own reasons, tried first, and the second before the first.
 #[derive(Clone, Copy)]
@@ -142,13 +141,14 @@ impl Parcels {
     }
 
     // The query of a line that sends.
-    pub fn send(&mut self, op: Op, line: &[u8]) -> Result<(), Fault>
-        ensures { SendGives self.old (op_number op) line.now result self.new }
+    pub fn send(&mut self, op: u8, line: &[u8]) -> Result<(), Fault>
+        ensures { SendGives self.old op line.now result self.new }
     {
         let key = key(line);
         let value = script::value(line);
         let mut outlet = [0u8; OUTLET_SIZE];
-        let h = query(op as u8, self.count() as u32 + 1, value.len() as u8);
+        let h = query(op, self.count() as u32 + 1, value.len() as u8);
+        // What is no packet is not written, and the outlet stays zeros.
         let _ = packet::write(&mut outlet, h, &key, value);
         self.keep(Place::Relay, outlet)
     }

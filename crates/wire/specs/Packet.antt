@@ -3,8 +3,6 @@ use Rattle.std.specs.Prelude.{ℕ, ◌+◌, ◌<◌, ◌≤◌, ◌≡◌, List,
 use Rattle.be.specs.Be.{be, digits, put}
 use Rattle.wire.specs.Numbers.{Out, ok, done, judge, test, Case, case, left, small_outlet, malformed, pick}
 use Rattle.wire.specs.Version.{version, stamp, is_zero, is_given, is_orderly, zero_version}
-use Rattle.wire.specs.declared.Op.{Op}
-use Rattle.wire.specs.declared.Op.TheVariants.{Read, Write, Delete}
 use Rattle.wire.specs.declared.Version.{Version}
 use Rattle.wire.specs.declared.Head.{Head}
 
@@ -45,11 +43,6 @@ op_write = 2
 
 abbrev pub op_delete : ℕ
 op_delete = 3
-
-abbrev pub op_number : Op → ℕ
-op_number Read = op_read
-op_number Write = op_write
-op_number Delete = op_delete
 
 abbrev pub query : ℕ
 query = 0
