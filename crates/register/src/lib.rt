@@ -2,16 +2,16 @@
 #![tactic(auto)]
 
 ghost use Rattle.std.specs.Prelude.{◌≡◌};
-ghost use Rattle.std.specs.Fn.{FnOnceReturnsAtMut};
 ghost use Rattle.wire.specs.Numbers.{number_of};
-ghost use Rattle.register.specs.Rulings.{Ruled};
 ghost use Rattle.store.specs.Table.{BlankGives};
 ghost use Rattle.steps.specs.Node.{NodeGives};
 ghost use Rattle.register.specs.Boundary.{RelayLeaves, OpenLeaves, FenceLeaves, CopyLeaves, ActivateLeaves, CancelLeaves, RemoveLeaves, EnterLeaves, StartLeaves, ReadLeaves, WriteLeaves, good_call, find_number};
 
+mod ruling;
+
 use chain::MOST_NODES;
 use numbers::{FIELDS_SIZE, RECORD_SIZE};
-use steps::Chain;
+use ruling::ruled;
 use wire::Refusal;
 
 // ---- the node step
@@ -33,16 +33,6 @@ pub fn register_relay_step(rec: &[u32], packet: &[u8], outlet: &mut [u8]) -> u32
 }
 
 // ---- the controller steps: the record as numbers, and the tables
-
-// A step on the record alone: the numbers are those of the record that it leaves, or stay.
-fn ruled<F: FnOnce(&mut Chain) -> Result<(), Refusal>>(rec: &mut [u32], step: F) -> u8
-    requires { F.IsAlwaysCallable step }
-    ensures { Ruled (FnOnceReturnsAtMut F.FnOnce step) rec.old result rec.new }
-{
-    let mut c = numbers::record_of(rec);
-    let done = step(&mut c);
-    numbers::settle(rec, done, c)
-}
 
 // The kind is 1 before, 2 after.
 pub fn register_open(rec: &mut [u32], kind: u8, named: u16, fresh: u16) -> u8
