@@ -32,7 +32,7 @@ use Rattle.steps.proofs.NodeView.{node_view}
 use Rattle.steps.proofs.NodeSound.{Sound, sound_packet, sound_table}
 use Rattle.steps.proofs.NodeSends.{Writes, none, one, Sends as SoundSends, node_sends}
 use Rattle.node.specs.Ways.{answer_of, version_of, carried, sent_by, outcome, asked, behind, Comes}
-use Rattle.node.specs.Queries.{table_asked, asked_by}
+use Rattle.node.specs.Queries.{table_asked, asked_by, Gives}
 use Rattle.node.specs.declared.Query.{Query}
 use Rattle.node.specs.declared.Reply.{Reply}
 use Rattle.node.specs.declared.Reply.TheVariants.{Taken, Value, NoValue, NoKey}
@@ -180,10 +180,7 @@ module _ (t : Table) (p : Packet) where
 -- ---- a reply
 
 module _ (q : Query) where
-  -- what a query comes to
-  pub comes_of : {r : Reply} → node_step (table_asked q) (asked_by q) ≡ ok (sent_by (table_asked q) (asked_by q) r) → Comes q.table.now q.packet.now q.head r
-  comes_of e = record { rules = rules_of q.rules; formed = (reflect_formed q.packet.now).0 q.formed; fields = q.fields; step = e }
-
+  -- its packet fits
   read_fit : Fit (packet_of q.packet.now)
   read_fit = fit_packet q.packet.now ((reflect_formed q.packet.now).0 q.formed)
 
@@ -196,7 +193,7 @@ module _ (q : Query) where
   carried_fits NoKey = omega arith
 
   -- own id is the one that the packet was sent to
-  module _ (r : Reply) (does : node_step (table_asked q) (asked_by q) ≡ ok (sent_by (table_asked q) (asked_by q) r)) where
+  module _ (r : Reply) (does : Gives q r) where
     own_id : q.head.to ≡ (table_asked q).id
     own_id = (node_view (table_asked q) (asked_by q) (sent_by (table_asked q) (asked_by q) r) does).accepted.mine
 

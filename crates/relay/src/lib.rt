@@ -11,17 +11,6 @@ ghost use Rattle.relay.specs.Ways.{unless_stopped, version_to, for_node, for_cli
 use steps::{Chain, Change, Destination, Outcome};
 use wire::{Answer, Head, Op, Refusal, Sequence, Stamp, Version};
 
-// Whether a change stops what is addressed to a node.
-fn stops(change: Change, read: bool, id: u16) -> bool
-    ensures { result ≡ stops_at change read id }
-{
-    match change {
-        Change::Still => false,
-        Change::Before(j) => (id == j.named) & !read,
-        Change::After(j) => id == j.named,
-    }
-}
-
 // A packet as it was read, and the chain that it is to pass.
 #[derive(Clone, Copy)]
 struct Passage<'a> {
@@ -62,11 +51,22 @@ impl Passage<'_> {
                 & (read | (!read & (h.version.sequence == Sequence(0)))))
     }
 
+    // Whether a change stops the packet, where it is addressed to a node.
+    fn stops(&self, id: u16) -> bool
+        ensures { result ≡ stops_at self.now.chain.change (is_read (passing self.now)) id }
+    {
+        match self.chain.change {
+            Change::Still => false,
+            Change::Before(j) => (id == j.named) & !self.is_read(),
+            Change::After(j) => id == j.named,
+        }
+    }
+
     // Row 6, or to the node.
     fn unless_stopped(&self, id: u16) -> Outcome
         ensures { (q : Packet) → said result ≡ outcome_of (unless_stopped self.now.chain (passing self.now) (node id q)) }
     {
-        if stops(self.chain.change, self.is_read(), id) {
+        if self.stops(id) {
             return Err(Refusal::Stopped);
         }
         Ok(Destination::ToNode(id))
