@@ -21,7 +21,7 @@ struct Passage<'a> {
     ghost fields: { head ≡ head_of packet.now },
 }
 
-impl Passage<'_> {
+impl<'a> Passage<'a> {
     ghost use Rattle.relay.specs.Passages.{passing};
 
     // ---- where the packet goes
