@@ -54,10 +54,10 @@ struct Query<'a> {
     ghost fields: { head ≡ head_of packet.now },
 }
 
+// What is settled.
+#[tactic(auto, unfolding(wire::specs::Numbers::guard, wire::specs::Numbers::pick, steps::specs::Node::absent, steps::specs::Node::answered, steps::specs::Node::at_slot, steps::specs::Node::version_for, steps::specs::Node::given, steps::specs::Node::taken, crate::specs::Ways::sent_by))]
 impl<'a> Query<'a> {
-    ghost use Rattle.node.specs.Queries.{table_asked, asked_by, StoredAt, Settles, Gives};
-
-    // ---- what is settled
+    ghost use Rattle.node.specs.Queries.{table_asked, asked_by, StoredAt, Settles};
 
     fn is_read(&self) -> bool
         ensures { result ≡ is_read (asked_by self.now) }
@@ -156,8 +156,11 @@ impl<'a> Query<'a> {
         }
         self.look()
     }
+}
 
-    // ---- what is sent
+// What is sent.
+impl<'a> Query<'a> {
+    ghost use Rattle.node.specs.Queries.{table_asked, asked_by, Gives};
 
     // The value that a reply carries: a part of the packet, or of the slot.
     fn value_in(&self, reply: Reply) -> &'a [u8]
@@ -189,6 +192,7 @@ impl<'a> Query<'a> {
 }
 
 // The state that a write or a delete leaves.
+#[tactic(auto, unfolding(wire::specs::Numbers::pick))]
 fn written(op: u8) -> u8
     ensures { result ≡ pick (eqb op op_write) valued deleted }
 {

@@ -63,6 +63,7 @@ impl<'a> Passage<'a> {
     }
 
     // Row 6, or to the node.
+    #[tactic(auto, unfolding(crate::specs::Ways::unless_stopped, wire::specs::Numbers::guard))]
     fn unless_stopped(&self, id: u16) -> Outcome
         ensures { (q : Packet) → said result ≡ outcome_of (unless_stopped self.now.chain (passing self.now) (node id q)) }
     {
@@ -119,6 +120,7 @@ impl<'a> Passage<'a> {
     // ---- what is sent there
 
     // A client's write or delete has the record's session put in; all else keeps its version.
+    #[tactic(auto, unfolding(crate::specs::Ways::version_to, wire::specs::Numbers::pick))]
     fn version_to(&self) -> Version
         ensures { result ≡ version_to self.now.chain (passing self.now) }
     {
@@ -132,6 +134,7 @@ impl<'a> Passage<'a> {
     }
 
     // To a node: from 0, to its id, stamp = wiring number.
+    #[tactic(auto, unfolding(steps::specs::Relay::to_node))]
     fn node_head(&self, id: u16) -> Head
         ensures { result ≡ (for_node self.now.chain id (passing self.now)).head }
     {
@@ -146,6 +149,7 @@ impl<'a> Passage<'a> {
     }
 
     // To a client: from, to and stamp are 0.
+    #[tactic(auto, unfolding(steps::specs::Relay::to_client))]
     fn answer_head(&self, answer: u8, n: u8) -> Head
         ensures { (v : List ℕ) → n ≡ length v → result ≡ (to_client answer v (passing self.now)).head }
     {
