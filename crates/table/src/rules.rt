@@ -76,7 +76,8 @@ fn row_ok(r: &[u8]) -> bool
     if state == State::Valued as u8 {
         return valued_ok(r, n, v);
     }
-    (((state == State::Entered as u8) & v.is_zero()) | ((state == State::Deleted as u8) & v.is_given()))
+    (((state == State::Entered as u8) & v.is_zero())
+        | ((state == State::Deleted as u8) & v.is_given()))
         & ((n == 0) & zeros(r, VALUE_AT, VALUE_SIZE))
 }
 

@@ -12,7 +12,8 @@ fn holds(t: &[u8], i: usize, key: &[u8]) -> bool
     ensures { result ≡ has_halves key.now (slot_of (row t.now i)) }
 {
     let at = HEAD_SIZE + ROW_SIZE * i;
-    be::same64(t, at, key, 0) & (be::same64(t, at + 8, key, 8) & (t[at + STATE_AT] != State::Free as u8))
+    be::same64(t, at, key, 0)
+        & (be::same64(t, at + 8, key, 8) & (t[at + STATE_AT] != State::Free as u8))
 }
 
 // The lowest of the eight slots from i on whose key has the same first half, or i + 8. It goes down and takes the last one that fits, with no way out before.
