@@ -1,97 +1,40 @@
--- The ways through a node step: how each test settles it, and what the promise says of the outcome.
+-- What a node reads of the table, what a reply sends and stores, and what the promise says of the outcome.
 use Prim.Native.Nat.{ℕ, ◌<◌, ◌≤◌}
 use mathlib.Core.Path.{◌≡◌, refl, sym, ap, ◌∙◌, subst}
-use mathlib.Core.Bool.{Bool, true, false, ◌&&◌, ◌||◌, not, and-false}
+use mathlib.Core.Bool.{true, false, not}
 use mathlib.Core.List.{List, []}
 use native.Mathlib.Omega.{arith}
 use native.Mathlib.Decide.{dec_lt}
 use lib.ListN.{length, get_or, get_or-eq_default, length-take, length-drop}
 use lib.Dec.{eqb}
-use borrow.Author.Tests.{lt-ltb, le-ltb, eq-eqb, ne_eqb}
+use borrow.Author.Tests.{lt-ltb, le-ltb}
 use Rattle.be.specs.Be.{Bytes}
-use Rattle.wire.specs.Numbers.{Out, refuse, ok, number_of, left, guard, pick, broken, small_outlet, malformed, misaddressed, below_fence, sessionless, key_missing, session_over, no_number_left, not_newer}
-use Rattle.wire.specs.Version.{less_stamp, less_session, same_session, last_sequence, next_sequence, newer, session, sequence}
-use Rattle.wire.specs.Packet.{Packet, packet, packet_of, key_of, value_of, well_formed, Formed, Fit, sent_in, outlet_size, op_read, op_write, value_size, query}
+use Rattle.wire.specs.Numbers.{Out, refuse, ok, number_of, left, pick, broken, small_outlet, malformed}
+use Rattle.wire.specs.Packet.{packet, packet_of, key_of, value_of, well_formed, Formed, Fit, sent_in, outlet_size, op_write, value_size}
 use Rattle.wire.specs.declared.Head.{Head}
 use Rattle.wire.specs.declared.Version.{Version}
 use Rattle.wire.specs.declared.Stamp.{Stamp}
 use Rattle.wire.proofs.Numbers.{pass_guard, stop_guard, reflects_yes, reflect_not, reflect_eqb, pick_case, pick_false}
 use Rattle.wire.proofs.Packet.{reflect_formed, ReadView}
 use Rattle.wire.proofs.RoundTrip.{fit_packet}
-use Rattle.store.specs.Table.{Slot, Table, slot, slot_of, row_size, table_of, table_ok, TableRules, count_of, find, slots, whole_slots, free_slot, valued, deleted, set_row, write_bytes}
-use Rattle.std.specs.Prelude.{Option, Some, None, Ok}
+use Rattle.store.specs.Table.{Slot, slot, slot_of, row_size, table_of, table_ok, TableRules, count_of, find, slots, whole_slots, free_slot, valued, deleted, set_row, write_bytes}
+use Rattle.std.specs.Prelude.{Option}
 use Rattle.store.proofs.Rules.{reflect_table, length_table, whole_table, slots_table}
 use Rattle.store.proofs.Slot.{SlotFits}
 use Rattle.packet.specs.Emit.{emitted}
 use Rattle.packet.proofs.Laws.{emit_done}
 use Rattle.table.specs.Parts.{fence_part, id_part, row_part, state_part, version_part, value_part, slot_stored}
 use Rattle.table.proofs.Tables.{id_table, fence_table_lem, state_table, version_table, value_table, store_table}
-use Rattle.steps.specs.Node.{Sent, Alters, reply, absent, answered, stored, taken, at_slot, given, version_for, is_read, is_numbered, node_step, node_call, NodeGives}
+use Rattle.steps.specs.Node.{Sent, reply, stored, node_step, node_call, NodeGives}
 use Rattle.steps.proofs.Node.{call_step}
 use Rattle.steps.proofs.NodeView.{node_view}
 use Rattle.steps.proofs.NodeSound.{Sound, sound_packet, sound_table}
 use Rattle.steps.proofs.NodeSends.{Writes, none, one, Sends as SoundSends, node_sends}
-use Rattle.node.specs.Ways.{answer_of, version_of, carried, sent_by, outcome, asked, behind, Comes}
-use Rattle.node.specs.Queries.{table_asked, asked_by}
+use Rattle.node.specs.Ways.{answer_of, version_of, carried, sent_by, asked, Comes}
+use Rattle.node.specs.Queries.{table_asked, asked_by, Gives}
 use Rattle.node.specs.declared.Query.{Query}
 use Rattle.node.specs.declared.Reply.{Reply}
 use Rattle.node.specs.declared.Reply.TheVariants.{Taken, Value, NoValue, NoKey}
-
--- ---- a key that stands in slot i
-
-module _ (t : Table) (p : Packet) (i : ℕ) {v : Version} (is : (get_or t.slots i free_slot).version ≡ v) where
-  -- a read
-  module _ (r : is_read p ≡ true) {state : ℕ} (has : (get_or t.slots i free_slot).state ≡ state) where
-    pub value_way : state ≡ valued → behind t p (Some i) ≡ outcome t p (Ok (Value v i))
-    unfolding guard pick at_slot answered sent_by
-    value_way e = rw (r, has, eq-eqb state valued e, is)
-
-    pub no_value_way : (state ≡ valued → ⊥) → behind t p (Some i) ≡ outcome t p (Ok (NoValue v))
-    unfolding guard pick at_slot answered sent_by
-    no_value_way e = rw (r, has, ne_eqb state valued e, is)
-
-  module _ (a : Alters p) where
-    -- a write or delete with a number
-    module _ (n : p.head.version.sequence.0 ≡ 0 → ⊥) where
-      pub older_way : newer p.head.version v ≡ false → behind t p (Some i) ≡ refuse not_newer
-      unfolding guard
-      older_way e = rw (is, ne_eqb p.head.op op_read a, ne_eqb p.head.version.sequence.0 0 n, e)
-
-      pub newer_way : newer p.head.version v ≡ true → behind t p (Some i) ≡ outcome t p (Ok (Taken p.head.version i))
-      unfolding guard pick at_slot version_for taken sent_by
-      newer_way e = rw (is, ne_eqb p.head.op op_read a, ne_eqb p.head.version.sequence.0 0 n, e)
-
-    -- one without
-    module _ (u : p.head.version.sequence.0 ≡ 0) where
-      pub over_way : less_session p.head.version.session v.session ≡ true → behind t p (Some i) ≡ refuse session_over
-      unfolding guard
-      over_way e = rw (is, ne_eqb p.head.op op_read a, eq-eqb p.head.version.sequence.0 0 u, e)
-
-      module _ (under : less_session p.head.version.session v.session ≡ false) where
-        pub last_way : same_session p.head.version.session v.session ≡ true → last_sequence v.sequence ≡ true → behind t p (Some i) ≡ refuse no_number_left
-        unfolding guard
-        last_way e f = rw (is, ne_eqb p.head.op op_read a, eq-eqb p.head.version.sequence.0 0 u, under, e, f)
-
-        pub next_way : same_session p.head.version.session v.session ≡ true → last_sequence v.sequence ≡ false
-            → behind t p (Some i) ≡ outcome t p (Ok (Taken (record { session = p.head.version.session; sequence = next_sequence v.sequence }) i))
-        unfolding guard pick at_slot version_for given taken sent_by
-        next_way e f = rw (is, ne_eqb p.head.op op_read a, eq-eqb p.head.version.sequence.0 0 u, under, e, f)
-
-        pub first_way : same_session p.head.version.session v.session ≡ false
-            → behind t p (Some i) ≡ outcome t p (Ok (Taken (record { session = p.head.version.session; sequence = sequence 1 }) i))
-        unfolding guard pick at_slot version_for given taken sent_by
-        first_way e = rw (is, ne_eqb p.head.op op_read a, eq-eqb p.head.version.sequence.0 0 u, under, e)
-
--- ---- a key that is missing
-
-module _ (t : Table) (p : Packet) where
-  pub missing_way : is_numbered p ≡ true → behind t p None ≡ refuse key_missing
-  unfolding guard
-  missing_way e = rw e
-
-  pub absent_way : is_numbered p ≡ false → behind t p None ≡ outcome t p (Ok NoKey)
-  unfolding guard pick absent sent_by
-  absent_way e = rw (e, and-false)
 
 -- ---- looking for the key
 
@@ -117,11 +60,11 @@ module _ {t : List ℕ} (g : TableRules t) (i : ℕ) where
       go (yes h) = there h
       go (no h) = ap part (no_row (omega arith)) ∙ (empty ∙ ap field (sym (get_or-eq_default (table_of t).slots free_slot (omega (arith, length_table t)))))
 
-  pub any_state : state_part (row_part t i) ≡ (get_or (table_of t).slots i free_slot).state
+  any_state : state_part (row_part t i) ≡ (get_or (table_of t).slots i free_slot).state
   unfolding state_part pick
   any_state = by_row state_part (λ s. s.state) (state_table t g i) refl
 
-  pub any_version : version_part (row_part t i) ≡ (get_or (table_of t).slots i free_slot).version
+  any_version : version_part (row_part t i) ≡ (get_or (table_of t).slots i free_slot).version
   unfolding version_part pick
   any_version = by_row version_part (λ s. s.version) (version_table t g i) refl
 
@@ -141,8 +84,6 @@ part_fits : (r : List ℕ) → length (value_part r) ≤ value_size
 unfolding value_part slot_of
 part_fits r = pick_case (λ (x : List ℕ). length x ≤ value_size) _ _ _ (λ e. let n = (reflect_eqb (length r) row_size).0 e in simp (length-take, length-drop) (omega arith)) (λ e. omega arith)
 
--- ---- rows 4, 7 and 8
-
 -- what was read of the head
 module _ (q : Query) where
   pub id_asked : {n : ℕ} → n ≡ id_part q.table.now → n ≡ (table_asked q).id
@@ -151,39 +92,10 @@ module _ (q : Query) where
   pub fence_asked : {n : Stamp} → n ≡ fence_part q.table.now → n ≡ (table_asked q).fence
   fence_asked e = e ∙ fence_table_lem q.table.now (rules_of q.rules)
 
--- the tests of rows 4 and 8
-abbrev pub elsewhere : Table → Packet → Bool
-elsewhere t p = not (eqb p.head.to t.id) || (not (eqb p.head.from 0) || not (eqb p.head.answer query))
-
-abbrev pub lacks_session : Packet → Bool
-lacks_session p = not (is_read p) && same_session p.head.version.session (session 0)
-
-module _ (t : Table) (p : Packet) where
-  pub elsewhere_way : elsewhere t p ≡ true → node_step t p ≡ refuse misaddressed
-  unfolding node_step
-  elsewhere_way e = stop_guard _ _ _ e
-
-  module _ (here : elsewhere t p ≡ false) where
-    pub below_way : less_stamp p.head.stamp t.fence ≡ true → node_step t p ≡ refuse below_fence
-    unfolding node_step
-    below_way e = pass_guard _ _ _ here ∙ stop_guard _ _ _ e
-
-    module _ (live : less_stamp p.head.stamp t.fence ≡ false) where
-      pub sessionless_way : lacks_session p ≡ true → node_step t p ≡ refuse sessionless
-      unfolding node_step
-      sessionless_way e = pass_guard _ _ _ here ∙ (pass_guard _ _ _ live ∙ stop_guard _ _ _ e)
-
-      pub behind_way : lacks_session p ≡ false → node_step t p ≡ behind t p (find p.key t.slots)
-      unfolding node_step
-      behind_way e = pass_guard _ _ _ here ∙ (pass_guard _ _ _ live ∙ pass_guard _ _ _ e)
-
 -- ---- a reply
 
 module _ (q : Query) where
-  -- what a query comes to
-  pub comes_of : {r : Reply} → node_step (table_asked q) (asked_by q) ≡ ok (sent_by (table_asked q) (asked_by q) r) → Comes q.table.now q.packet.now q.head r
-  comes_of e = record { rules = rules_of q.rules; formed = (reflect_formed q.packet.now).0 q.formed; fields = q.fields; step = e }
-
+  -- its packet fits
   read_fit : Fit (packet_of q.packet.now)
   read_fit = fit_packet q.packet.now ((reflect_formed q.packet.now).0 q.formed)
 
@@ -196,7 +108,7 @@ module _ (q : Query) where
   carried_fits NoKey = omega arith
 
   -- own id is the one that the packet was sent to
-  module _ (r : Reply) (does : node_step (table_asked q) (asked_by q) ≡ ok (sent_by (table_asked q) (asked_by q) r)) where
+  module _ (r : Reply) (does : Gives q r) where
     own_id : q.head.to ≡ (table_asked q).id
     own_id = (node_view (table_asked q) (asked_by q) (sent_by (table_asked q) (asked_by q) r) does).accepted.mine
 

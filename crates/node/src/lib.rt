@@ -2,7 +2,7 @@
 #![tactic(auto)]
 
 ghost use Rattle.std.specs.Prelude.{◌≡◌, ℕ, ◌≤◌, length, eqb, true};
-ghost use Rattle.wire.specs.Numbers.{ok, pick, code};
+ghost use Rattle.wire.specs.Numbers.{pick, code};
 ghost use Rattle.wire.specs.Packet.{head_of, key_of, value_of, well_formed, sent_in, outlet_size, op_read, op_write};
 ghost use Rattle.store.specs.Table.{table_of, table_ok, find, valued, deleted, write_bytes};
 ghost use Rattle.steps.specs.Node.{is_read, Alters, Unnumbered, node_step, NodeGives};
@@ -11,7 +11,7 @@ ghost use Rattle.node.specs.Ways.{answer_of, version_of, carried, sent_by, taken
 use store::State;
 use wire::{Answer, Head, Kind, Op, Refusal, Sequence, Session, Version};
 
-// What is sent. A write or delete that is taken goes on under its version, and is stored in its slot; answer 1 shows the slot's value.
+// What is sent, and under which version. A write or delete that is taken goes on and is stored in its slot; answer 1 shows the slot's value.
 #[derive(Clone, Copy)]
 enum Reply {
     Taken(Version, usize),
@@ -54,10 +54,10 @@ struct Query<'a> {
     ghost fields: { head ≡ head_of packet.now },
 }
 
+// What is settled.
+#[tactic(auto, unfolding(wire::specs::Numbers::guard, wire::specs::Numbers::pick, steps::specs::Node::absent, steps::specs::Node::answered, steps::specs::Node::at_slot, steps::specs::Node::version_for, steps::specs::Node::given, steps::specs::Node::taken, crate::specs::Ways::sent_by))]
 impl<'a> Query<'a> {
     ghost use Rattle.node.specs.Queries.{table_asked, asked_by, StoredAt, Settles};
-
-    // ---- what is settled
 
     fn is_read(&self) -> bool
         ensures { result ≡ is_read (asked_by self.now) }
@@ -130,6 +130,7 @@ impl<'a> Query<'a> {
         Ok(Reply::NoKey)
     }
 
+    // The rows behind 8, and the ways past them, by where the key stands.
     fn look(&self) -> Result<Reply, Refusal>
         ensures { Settles self.now (find (asked_by self.now).key (table_asked self.now).slots) result }
     {
@@ -139,6 +140,7 @@ impl<'a> Query<'a> {
         }
     }
 
+    // Rows 4, 7 and 8, which the head decides; then where the key stands.
     fn ask(&self) -> Result<Reply, Refusal>
         ensures { node_step (table_asked self.now) (asked_by self.now) ≡ outcome (table_asked self.now) (asked_by self.now) result }
     {
@@ -154,14 +156,17 @@ impl<'a> Query<'a> {
         }
         self.look()
     }
+}
 
-    // ---- what is sent
+// What is sent.
+impl<'a> Query<'a> {
+    ghost use Rattle.node.specs.Queries.{table_asked, asked_by, Gives};
 
     // The value that a reply carries: a part of the packet, or of the slot.
-    fn value_in(&self, r: Reply) -> &'a [u8]
-        ensures { result.now ≡ carried (table_asked self.now) (asked_by self.now).value r }
+    fn value_in(&self, reply: Reply) -> &'a [u8]
+        ensures { result.now ≡ carried (table_asked self.now) (asked_by self.now).value reply }
     {
-        match r {
+        match reply {
             Reply::Taken(..) => packet::value_of(self.packet),
             Reply::Value(_, i) => table::value(table::row(self.table, i)),
             Reply::NoValue(..) | Reply::NoKey => &self.packet[..0],
@@ -169,16 +174,16 @@ impl<'a> Query<'a> {
     }
 
     // Outgoing: from own id, which the packet was sent to, to 0; op, client, request, stamp and key kept.
-    fn send(&self, r: Reply, out: &mut [u8])
-        requires { (node_step (table_asked self.now) (asked_by self.now) ≡ ok (sent_by (table_asked self.now) (asked_by self.now) r)) × (outlet_size ≤ length out.old) }
-        ensures { out.new ≡ sent_in out.old (sent_by (table_asked self.now) (asked_by self.now) r).packet }
+    fn send(&self, reply: Reply, out: &mut [u8])
+        requires { Gives self.now reply × (outlet_size ≤ length out.old) }
+        ensures { out.new ≡ sent_in out.old (sent_by (table_asked self.now) (asked_by self.now) reply).packet }
     {
-        let value = self.value_in(r);
+        let value = self.value_in(reply);
         let head = Head {
-            answer: r.answer(),
+            answer: reply.answer(),
             from: self.head.to,
             to: 0,
-            version: r.version(),
+            version: reply.version(),
             length: value.len() as u8,
             ..self.head
         };
@@ -187,6 +192,7 @@ impl<'a> Query<'a> {
 }
 
 // The state that a write or a delete leaves.
+#[tactic(auto, unfolding(wire::specs::Numbers::pick))]
 fn written(op: u8) -> u8
     ensures { result ≡ pick (eqb op op_write) valued deleted }
 {
@@ -198,11 +204,11 @@ fn written(op: u8) -> u8
 }
 
 // A taken write or delete stores content and version; any other answer stores nothing.
-fn store_taken(r: Reply, table: &mut [u8], packet: &[u8], h: Head)
-    requires { Comes table.old packet.now h r }
-    ensures { table.new ≡ write_bytes (sent_by (table_of table.old) (asked h packet.now) r).write table.old }
+fn store_taken(reply: Reply, table: &mut [u8], packet: &[u8], h: Head)
+    requires { Comes table.old packet.now h reply }
+    ensures { table.new ≡ write_bytes (sent_by (table_of table.old) (asked h packet.now) reply).write table.old }
 {
-    let Reply::Taken(version, slot) = r else {
+    let Reply::Taken(version, slot) = reply else {
         return;
     };
     table::store(
@@ -215,6 +221,7 @@ fn store_taken(r: Reply, table: &mut [u8], packet: &[u8], h: Head)
     );
 }
 
+// The step, every refusal of document 01 included.
 pub fn step(table: &mut [u8], packet: &[u8], out: &mut [u8]) -> Result<(), Refusal>
     ensures { NodeGives table.old packet.now out.old (code result) table.new out.new }
 {
@@ -230,8 +237,8 @@ pub fn step(table: &mut [u8], packet: &[u8], out: &mut [u8]) -> Result<(), Refus
         packet,
         head,
     };
-    let r = query.ask()?;
-    query.send(r, out);
-    store_taken(r, table, packet, head);
+    let reply = query.ask()?;
+    query.send(reply, out);
+    store_taken(reply, table, packet, head);
     Ok(())
 }

@@ -70,6 +70,7 @@ fn becomes_first(c: Chain) -> bool
 }
 
 // The place that the new node takes.
+#[tactic(auto, using(chain::proofs::Ids::place_low))]
 fn join_place(c: Chain) -> usize
     ensures { result ≡ join_place c c.change }
 {

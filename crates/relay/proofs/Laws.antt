@@ -9,7 +9,7 @@ use lib.Seq.{take_all}
 use lib.Dec.{eqb}
 use denote.Bor.{Bor}
 use borrow.Author.Tests.{lt-ltb, le-ltb, eq-eqb, ne_eqb}
-use Rattle.wire.specs.Numbers.{Out, refuse, ok, left, pick, broken, small_outlet, malformed, misaddressed, stranger, stopped}
+use Rattle.wire.specs.Numbers.{Out, refuse, ok, left, pick, broken, small_outlet, malformed, misaddressed, stranger}
 use Rattle.wire.specs.Version.{sequence}
 use Rattle.wire.specs.Packet.{Packet, packet, packet_of, key_of, value_of, value_size, sent_in, Formed, Fit, outlet_size, op_read, query, answer_written}
 use Rattle.wire.specs.declared.Head.{Head}
@@ -72,12 +72,8 @@ module _ (r : Chain) (p out : List ℕ) where
 -- ---- the step
 
 module _ (r : Chain) (p : Packet) where
-  -- a way that is stopped, and one that is not
-  pub way_stopped : (w : Way) → stops_way r.change (is_read p) w ≡ true → unless_stopped r p w ≡ refuse stopped
-  unfolding unless_stopped
-  way_stopped w e = stop_guard _ _ _ e
-
-  pub way_free : (w : Way) → stops_way r.change (is_read p) w ≡ false → unless_stopped r p w ≡ ok w
+  -- a way that is not stopped
+  way_free : (w : Way) → stops_way r.change (is_read p) w ≡ false → unless_stopped r p w ≡ ok w
   unfolding unless_stopped
   way_free w e = pass_guard _ _ _ e
 

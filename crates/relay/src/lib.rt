@@ -11,17 +11,6 @@ ghost use Rattle.relay.specs.Ways.{unless_stopped, version_to, for_node, for_cli
 use steps::{Chain, Change, Destination, Outcome};
 use wire::{Answer, Head, Op, Refusal, Sequence, Stamp, Version};
 
-// Whether a change stops what is addressed to a node.
-fn stops(change: Change, read: bool, id: u16) -> bool
-    ensures { result ≡ stops_at change read id }
-{
-    match change {
-        Change::Still => false,
-        Change::Before(j) => (id == j.named) & !read,
-        Change::After(j) => id == j.named,
-    }
-}
-
 // A packet as it was read, and the chain that it is to pass.
 #[derive(Clone, Copy)]
 struct Passage<'a> {
@@ -32,7 +21,7 @@ struct Passage<'a> {
     ghost fields: { head ≡ head_of packet.now },
 }
 
-impl Passage<'_> {
+impl<'a> Passage<'a> {
     ghost use Rattle.relay.specs.Passages.{passing};
 
     // ---- where the packet goes
@@ -62,11 +51,23 @@ impl Passage<'_> {
                 & (read | (!read & (h.version.sequence == Sequence(0)))))
     }
 
+    // Whether a change stops the packet, where it is addressed to a node.
+    fn stops(&self, id: u16) -> bool
+        ensures { result ≡ stops_at self.now.chain.change (is_read (passing self.now)) id }
+    {
+        match self.chain.change {
+            Change::Still => false,
+            Change::Before(j) => (id == j.named) & !self.is_read(),
+            Change::After(j) => id == j.named,
+        }
+    }
+
     // Row 6, or to the node.
+    #[tactic(auto, unfolding(crate::specs::Ways::unless_stopped, wire::specs::Numbers::guard))]
     fn unless_stopped(&self, id: u16) -> Outcome
         ensures { (q : Packet) → said result ≡ outcome_of (unless_stopped self.now.chain (passing self.now) (node id q)) }
     {
-        if stops(self.chain.change, self.is_read(), id) {
+        if self.stops(id) {
             return Err(Refusal::Stopped);
         }
         Ok(Destination::ToNode(id))
@@ -119,6 +120,7 @@ impl Passage<'_> {
     // ---- what is sent there
 
     // A client's write or delete has the record's session put in; all else keeps its version.
+    #[tactic(auto, unfolding(crate::specs::Ways::version_to, wire::specs::Numbers::pick))]
     fn version_to(&self) -> Version
         ensures { result ≡ version_to self.now.chain (passing self.now) }
     {
@@ -132,6 +134,7 @@ impl Passage<'_> {
     }
 
     // To a node: from 0, to its id, stamp = wiring number.
+    #[tactic(auto, unfolding(steps::specs::Relay::to_node))]
     fn node_head(&self, id: u16) -> Head
         ensures { result ≡ (for_node self.now.chain id (passing self.now)).head }
     {
@@ -146,6 +149,7 @@ impl Passage<'_> {
     }
 
     // To a client: from, to and stamp are 0.
+    #[tactic(auto, unfolding(steps::specs::Relay::to_client))]
     fn answer_head(&self, answer: u8, n: u8) -> Head
         ensures { (v : List ℕ) → n ≡ length v → result ≡ (to_client answer v (passing self.now)).head }
     {

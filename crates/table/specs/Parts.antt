@@ -1,12 +1,12 @@
 -- What the functions over a table's bytes give on any slice, a table or not.
-use Rattle.std.specs.Prelude.{ℕ, zero, suc, List, [], Bool, ◌&&◌, not, length, ltb, leb, eqb}
+use Rattle.std.specs.Prelude.{ℕ, List, [], Bool, ◌&&◌, not, length, ltb, leb, eqb}
 use Rattle.be.specs.Be.{be, put}
 use Rattle.wire.specs.Numbers.{pick}
 use Rattle.wire.specs.Version.{stamp, zero_version}
 use Rattle.wire.specs.Packet.{key_size, value_size}
 use Rattle.wire.specs.declared.Version.{Version}
 use Rattle.wire.specs.declared.Stamp.{Stamp}
-use Rattle.store.specs.Table.{Slot, slot_of, row_of, head_size, row_size, free, row_at, row, fence_of, id_of, count_of, whole_slots, fence_bytes}
+use Rattle.store.specs.Table.{Slot, slot_of, row_of, head_size, row_size, free, row_at, row, tab, fence_of, id_of, count_of, whole_slots, fence_bytes}
 
 -- ---- the head: of a slice with no whole head each is 0
 
@@ -25,6 +25,10 @@ count_part t = pick (leb head_size (length t)) (count_of t) 0
 unfoldable pub row_part : List ℕ → ℕ → List ℕ
 row_part t i = pick (ltb i (whole_slots t)) (row t i) []
 
+-- all of them, one after the other
+unfoldable pub rows_of : List ℕ → List (List ℕ)
+rows_of t = tab (whole_slots t) (row t)
+
 -- the fields of a row; of a part that is no row the state is 0, the version 0.0 and the value empty
 unfoldable pub state_part : List ℕ → ℕ
 state_part r = pick (eqb (length r) row_size) (slot_of r).state free
@@ -39,18 +43,9 @@ value_part r = pick (eqb (length r) row_size) (slot_of r).value []
 unfoldable pub has_halves : List ℕ → Slot → Bool
 has_halves key s = eqb (be 8 s.key 0) (be 8 key 0) && (eqb (be 8 s.key 8) (be 8 key 8) && not (eqb s.state free))
 
--- slot j of a table, used or not, has the same first half
-unfoldable pub first_half : List ℕ → List ℕ → ℕ → Bool
-first_half key t j = eqb (be 8 t (row_at j)) (be 8 key 0)
-
--- the lowest of the n numbers from i on that passes a test; i + n where none does
-abbrev pub lowest : (ℕ → Bool) → ℕ → ℕ → ℕ
-lowest f i zero = i
-lowest f i (suc n) = pick (f i) i (lowest f (suc i) n)
-
--- the lowest of the eight slots from i on that has the same first half; i + 8 where none has
-unfoldable pub nearest : List ℕ → List ℕ → ℕ → ℕ
-nearest key t i = lowest (first_half key t) i 8
+-- a row, used or not, whose key has the same first half
+unfoldable pub same_half : List ℕ → List ℕ → Bool
+same_half key r = eqb (be 8 r 0) (be 8 key 0)
 
 -- ---- what is written
 

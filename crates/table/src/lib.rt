@@ -2,74 +2,91 @@
 
 #![tactic(auto)]
 
-ghost use Rattle.std.specs.Prelude.{◌≡◌, ◌+◌, ◌*◌, ◌-◌, ◌<◌, ◌≤◌, length};
-ghost use Rattle.wire.specs.Numbers.{code};
-ghost use Rattle.wire.specs.Packet.{key_size, value_size};
-ghost use Rattle.store.specs.Table.{slot, row_of, row_size, row_at, slots, whole_slots, table_ok, frame_ok, find, lowest_free, head_size, BlankGives, blank_bytes};
-ghost use Rattle.table.specs.Parts.{fence_part, id_part, count_part, row_part, state_part, version_part, value_part, slot_written, slot_stored, fence_set, slot_copied};
+ghost use Rattle.std.specs.Prelude.{◌≡◌, ◌+◌, ◌≤◌, length, leb};
+ghost use Rattle.be.specs.Be.{be};
+ghost use Rattle.wire.specs.Numbers.{pick, code};
+ghost use Rattle.store.specs.Table.{slot, row_at, slots, whole_slots, table_ok, frame_ok, find, lowest_free, head_size, BlankGives, blank_bytes};
+ghost use Rattle.table.specs.Parts.{fence_part, id_part, count_part, rows_of, row_part, state_part, version_part, value_part, slot_written, slot_stored, fence_set, slot_copied};
 
 mod rules;
 mod search;
 
+use be::Number;
 use store::{HEAD_SIZE, MOST_SLOTS, ROW_SIZE, SIZE_AT, STATE_AT, State, VALUE_AT};
 use wire::{KEY_SIZE, Refusal, Stamp, VALUE_SIZE, Version};
 
-pub(crate) fn wide(b: u8) -> usize
-    ensures { (result ≡ b) × (result < 256) }
-{
-    b as usize
-}
+// Where the id and the slot count stand in the head.
+const ID_AT: usize = 4;
+
+const COUNT_AT: usize = 6;
+
+// Where the session and the sequence stand in a slot.
+const SESSION_AT: usize = 18;
+
+const SEQUENCE_AT: usize = 20;
+
+// The bytes of a slot, and a key.
+type Row = [u8; ROW_SIZE];
+
+type Key = [u8; KEY_SIZE];
 
 // ---- the head
 
+// The number at `at` in the head, or the other one where there is no whole head.
+#[tactic(auto, unfolding(wire::specs::Numbers::pick))]
+fn in_head<T: Number + Copy>(t: &[u8], at: usize, other: T) -> T
+    requires { at + T.SIZE ≤ head_size }
+    ensures { T.value result ≡ pick (leb head_size (length t.now)) (be T.SIZE t.now at) (T.value other) }
+{
+    if t.len() < HEAD_SIZE {
+        other
+    } else {
+        be::read(t, at)
+    }
+}
+
+#[tactic(auto, unfolding(crate::specs::Parts::fence_part))]
 pub fn fence(t: &[u8]) -> Stamp
     ensures { result ≡ fence_part t.now }
 {
-    if t.len() < HEAD_SIZE {
-        return Stamp(0);
-    }
-    Stamp(be::read(t, 0))
+    Stamp(in_head(t, 0, 0))
 }
 
+#[tactic(auto, unfolding(crate::specs::Parts::id_part))]
 pub fn id(t: &[u8]) -> u16
     ensures { result ≡ id_part t.now }
 {
-    if t.len() < HEAD_SIZE {
-        return 0;
-    }
-    be::read(t, 4)
+    in_head(t, ID_AT, 0)
 }
 
+#[tactic(auto, unfolding(crate::specs::Parts::count_part))]
 pub fn count(t: &[u8]) -> u16
     ensures { result ≡ count_part t.now }
 {
-    if t.len() < HEAD_SIZE {
-        return 0;
-    }
-    be::read(t, 6)
+    in_head(t, COUNT_AT, 0)
 }
 
 // ---- the parts of a slot
 
 // The whole slots that a slice has, a table or not.
-fn whole(t: &[u8]) -> usize
-    ensures { result ≡ whole_slots t.now }
+fn rows(t: &[u8]) -> &[Row]
+    ensures value { result.now ≡ rows_of t.now }
+    ensures len { length result.now ≡ whole_slots t.now }
 {
-    if t.len() < HEAD_SIZE {
-        return 0;
+    match t.get(HEAD_SIZE..) {
+        Some(slots) => slots.as_chunks::<ROW_SIZE>().0,
+        None => &[],
     }
-    (t.len() - HEAD_SIZE) / ROW_SIZE
 }
 
 // The bytes of slot i, a part of the slice; none where it has no whole slot i.
 pub fn row(t: &[u8], i: usize) -> &[u8]
     ensures { result.now ≡ row_part t.now i }
 {
-    if i < whole(t) {
-        let a = HEAD_SIZE + ROW_SIZE * i;
-        return &t[a..a + ROW_SIZE];
+    match rows(t).get(i) {
+        Some(r) => r,
+        None => &[],
     }
-    &t[..0]
 }
 
 pub fn state(r: &[u8]) -> u8
@@ -86,9 +103,10 @@ pub fn version(r: &[u8]) -> Version
     ensures { result ≡ version_part r.now }
 {
     if r.len() == ROW_SIZE {
-        return Version::new(be::read(r, 18), be::read(r, 20));
+        Version::new(be::read(r, SESSION_AT), be::read(r, SEQUENCE_AT))
+    } else {
+        Version::default()
     }
-    Version::new(0, 0)
 }
 
 // The value, a part of the row: no more than there is, whatever the length byte says.
@@ -96,12 +114,9 @@ pub fn value(r: &[u8]) -> &[u8]
     ensures { result.now ≡ value_part r.now }
 {
     if r.len() != ROW_SIZE {
-        return &r[..0];
+        return &[];
     }
-    let n = wide(r[SIZE_AT]);
-    if VALUE_SIZE < n {
-        return &r[VALUE_AT..];
-    }
+    let n = usize::from(r[SIZE_AT]).min(VALUE_SIZE);
     &r[VALUE_AT..VALUE_AT + n]
 }
 
@@ -111,30 +126,15 @@ pub fn value(r: &[u8]) -> &[u8]
 pub fn find(t: &[u8], key: &[u8]) -> Option<usize>
     ensures { result ≡ find key.now (slots (whole_slots t.now) t.now) }
 {
-    if key.len() != KEY_SIZE {
-        return None;
-    }
-    search::scan(t, whole(t), key)
-}
-
-fn scan_free(t: &[u8], n: usize) -> Option<usize>
-    requires { row_size * n ≤ length t.now - head_size }
-    ensures { result ≡ lowest_free (slots n t.now) }
-{
-    let mut i = 0;
-    while i < n {
-        if t[HEAD_SIZE + ROW_SIZE * i + STATE_AT] == State::Free as u8 {
-            return Some(i);
-        }
-        i += 1;
-    }
-    None
+    search::scan(rows(t), key.as_array()?)
 }
 
 pub fn lowest_free(t: &[u8]) -> Option<usize>
     ensures { result ≡ lowest_free (slots (whole_slots t.now) t.now) }
 {
-    scan_free(t, whole(t))
+    rows(t)
+        .iter()
+        .position(|r| r[STATE_AT] == State::Free as u8)
 }
 
 // ---- the check
@@ -142,46 +142,32 @@ pub fn lowest_free(t: &[u8]) -> Option<usize>
 fn frame_ok(t: &[u8]) -> bool
     ensures { result ≡ frame_ok t.now }
 {
-    if t.len() < HEAD_SIZE {
-        return false;
-    }
-    let n = be::read::<u16>(t, 6) as usize;
-    (be::read::<u16>(t, 4) != 0)
-        & (((0 < n) & (n <= MOST_SLOTS)) & (t.len() == HEAD_SIZE + ROW_SIZE * n))
+    let n = usize::from(count(t));
+    (id(t) != 0) & (((0 < n) & (n <= MOST_SLOTS)) & (t.len() == HEAD_SIZE + ROW_SIZE * n))
 }
 
 // Whether a slice is a table that keeps the rules.
 pub fn good(t: &[u8]) -> bool
     ensures { result ≡ table_ok t.now }
 {
-    if frame_ok(t) {
-        return rules::rows_ok(t, be::read::<u16>(t, 6) as usize);
-    }
-    false
+    frame_ok(t) && rows(t).iter().all(rules::row_ok)
 }
 
 // ---- what is written
 
-// The zeros come first, and all of them: a fixed count takes eight stores and no call.
-fn fill(part: &mut [u8], key: &[u8], state: u8, v: Version, value: &[u8])
-    requires { (length part.old ≡ row_size) × (length key.now ≡ key_size) × (length value.now ≤ value_size) }
-    ensures { part.new ≡ row_of (slot key.now state v value.now) }
-{
-    be::put_zeros(part, VALUE_AT, VALUE_SIZE);
-    be::put_bytes(part, 0, key);
-    part[STATE_AT] = state;
-    part[SIZE_AT] = value.len() as u8;
-    be::put(part, 18, v.session.0);
-    be::put(part, 20, v.sequence.0);
-    be::put_bytes(part, VALUE_AT, value);
-}
-
 // The slot writer: writes all of a row that is lent to it, and nothing where the part, the key or the value has no right length.
+// The zeros come first, and all of them: a fixed count takes eight stores and no call.
 pub fn write_slot(part: &mut [u8], key: &[u8], state: u8, v: Version, value: &[u8])
     ensures { part.new ≡ slot_written part.old (slot key.now state v value.now) }
 {
     if (part.len() == ROW_SIZE) & ((key.len() == KEY_SIZE) & (value.len() <= VALUE_SIZE)) {
-        fill(part, key, state, v, value);
+        be::put_zeros(part, VALUE_AT, VALUE_SIZE);
+        be::put_bytes(part, 0, key);
+        part[STATE_AT] = state;
+        part[SIZE_AT] = value.len() as u8;
+        be::put(part, SESSION_AT, v.session.0);
+        be::put(part, SEQUENCE_AT, v.sequence.0);
+        be::put_bytes(part, VALUE_AT, value);
     }
 }
 
@@ -189,7 +175,7 @@ pub fn write_slot(part: &mut [u8], key: &[u8], state: u8, v: Version, value: &[u
 pub fn store(t: &mut [u8], i: usize, key: &[u8], state: u8, v: Version, value: &[u8])
     ensures { t.new ≡ slot_stored t.old i (slot key.now state v value.now) }
 {
-    if i < whole(t) {
+    if i < rows(t).len() {
         let at = HEAD_SIZE + ROW_SIZE * i;
         write_slot(&mut t[at..at + ROW_SIZE], key, state, v, value);
     }
@@ -198,24 +184,20 @@ pub fn store(t: &mut [u8], i: usize, key: &[u8], state: u8, v: Version, value: &
 pub fn set_fence(t: &mut [u8], n: Stamp)
     ensures { t.new ≡ fence_set t.old n }
 {
-    if t.len() < HEAD_SIZE {
-        return;
+    if HEAD_SIZE <= t.len() {
+        be::put(t, 0, n.0);
     }
-    be::put(t, 0, n.0);
 }
 
 // Slot i of one table to slot i of another.
 pub fn copy_slot(from: &[u8], to: &mut [u8], i: usize)
     ensures { to.new ≡ slot_copied from.now to.old i }
 {
-    if whole(from) <= i {
-        return;
+    if i < rows(to).len() {
+        if let Some(r) = rows(from).get(i) {
+            be::put_bytes(to, HEAD_SIZE + ROW_SIZE * i, r);
+        }
     }
-    if whole(to) <= i {
-        return;
-    }
-    let a = HEAD_SIZE + ROW_SIZE * i;
-    be::put_bytes(to, a, &from[a..a + ROW_SIZE]);
 }
 
 fn clear(t: &mut [u8], id: u16, n: u16)
@@ -224,15 +206,15 @@ fn clear(t: &mut [u8], id: u16, n: u16)
 {
     let all = t.len();
     be::put_zeros(t, 0, all);
-    be::put(t, 4, id);
-    be::put(t, 6, n);
+    be::put(t, ID_AT, id);
+    be::put(t, COUNT_AT, n);
 }
 
 // Makes a blank table of the slice, or writes nothing.
 pub fn blank(t: &mut [u8], id: u16, count: u16) -> Result<(), Refusal>
     ensures { BlankGives t.old id count (code result) t.new }
 {
-    let n = count as usize;
+    let n = usize::from(count);
     if (id == 0) | ((n == 0) | ((MOST_SLOTS < n) | (t.len() != HEAD_SIZE + ROW_SIZE * n))) {
         return Err(Refusal::Broken);
     }

@@ -1,22 +1,16 @@
 -- `chain::seek` meets its contract.
-use Rattle.std.proofs.Common.{sym, ◌∙◌, arith, rules}
-use Rattle.chain.proofs.Ids.{seek_hit, seek_turn, seek_end}
+use Rattle.std.proofs.Common.{ℕ, Option, length, eqb, sym, ap, ◌∙◌, rules}
+use borrow.Author.Tests.{tests}
+use Rattle.std.specs.Option.{unwrap_or}
+use Rattle.std.proofs.lemmas.Iterator.{YieldsList-from_slice}
+use Rattle.std.proofs.lemmas.Iterator.Search.{position_from_yields_List}
+use Rattle.chain.proofs.Ids.{place_found}
 use Rattle.chain.proofs.seek.Goals as goal
-
-pub returns-then-places-i : goal.returns-then-places-i
-returns-then-places-i c =
-    let s = c.args in
-    let l = c.loop-i in
-    sym (l.invariant.2 ∙ seek_hit s.places s.n (search rules) (omega arith) s.id l.i (omega arith) c.if-places-i.true)
-
-pub loop-i-preserved : goal.loop-i-preserved
-loop-i-preserved c =
-    let s = c.args in
-    let l = c.loop-i in
-    (omega arith, omega arith, l.invariant.2 ∙ seek_turn s.places s.n (search rules) (omega arith) s.id l.i (omega arith) c.if-places-i.false)
 
 pub returns : goal.returns
 returns c =
     let s = c.args in
-    let l = c.loop-i in
-    sym (l.invariant.2 ∙ seek_end s.places s.n (search rules) (omega arith) s.id l.i (omega arith))
+    c.unwrap_or.ensures
+    ∙ ap (λ (o : Option ℕ). unwrap_or o (length s.ids.now))
+    (position_from_yields_List (λ x. eqb x s.id) _ _ c.position.result c.position.ensures.ran (YieldsList-from_slice s.ids.now cc) (λ x b q k. search (rules, tests)))
+    ∙ sym (place_found s.id s.ids.now)

@@ -21,18 +21,18 @@ invariant_of-query c =
     let v = read_fields c.args.packet.now _ c.in_ok-head.ensures in
     record { rules = search rules; formed = formed_read v; fields = v.head }
 
-pub returns-in_err-r : goal.returns-in_err-r
-returns-in_err-r c =
-    let p = err_from_is_err_and c.from_residual-in_err-r.result c.from_residual-in_err-r.ensures.1 in
+pub returns-in_err-reply : goal.returns-in_err-reply
+returns-in_err-reply c =
+    let p = err_from_is_err_and c.from_residual-in_err-reply.result c.from_residual-in_err-reply.ensures.1 in
     let v = read_fields c.args.packet.now _ c.in_ok-head.ensures in
-    rw (p.1, p.2) (gives_refused (search rules) c.if-out-lt-OUTLET_SIZE.false v _ c.in_err-r.ensures)
+    rw (p.1, p.2) (gives_refused (search rules) c.if-out-lt-OUTLET_SIZE.false v _ c.in_err-reply.ensures)
 
 pub store_taken-requires : goal.store_taken-requires
 store_taken-requires c =
     let v = read_fields c.args.packet.now _ c.in_ok-head.ensures in
-    record { rules = rules_of (search rules); formed = v.formed; fields = v.head; step = c.in_ok-r.ensures }
+    record { rules = rules_of (search rules); formed = v.formed; fields = v.head; step = c.in_ok-reply.ensures }
 
 pub returns : goal.returns
 returns c =
     let v = read_fields c.args.packet.now _ c.in_ok-head.ensures in
-    gives_sent (search rules) c.if-out-lt-OUTLET_SIZE.false v _ c.in_ok-r.ensures c.store_taken.ensures c.send.ensures
+    gives_sent (search rules) c.if-out-lt-OUTLET_SIZE.false v _ c.in_ok-reply.ensures c.store_taken.ensures c.send.ensures

@@ -13,4 +13,4 @@ returns c =
     rw c.in-Taken.is (is_stored taken bt bp c.key_of.ensures c.written.ensures c.value_of.ensures c.store.ensures)
 
 pub returns-in_default : goal.returns-in_default
-returns-in_default c = is_kept c.args.table.now c.args.packet.now c.args.h c.args.r c.in_default.not-Taken
+returns-in_default c = is_kept c.args.table.now c.args.packet.now c.args.h c.args.reply c.in_default.not-Taken

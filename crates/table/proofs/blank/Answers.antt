@@ -8,11 +8,13 @@ use Rattle.table.proofs.blank.Goals as goal
 pub returns-then-id-n : goal.returns-then-id-n
 unfolding blank_call
 returns-then-id-n c =
-    let e = stop_guard _ _ _ c.if-id-n.true in
+    let h = rw c.from-n.ensures at c.if-id-n.true in
+    let e = stop_guard _ _ _ h in
     record { number = sym (ap number_of e); table = sym (ap (left _ (λ b. b)) e) }
 
 pub returns : goal.returns
 unfolding blank_call
 returns c =
-    let e = pass_guard _ _ _ c.if-id-n.false in
+    let h = rw c.from-n.ensures at c.if-id-n.false in
+    let e = pass_guard _ _ _ h in
     record { number = sym (ap number_of e); table = c.clear.ensures ∙ sym (ap (left _ (λ b. b)) e) }

@@ -1,15 +1,10 @@
 -- `table::fence` meets its contract.
-use Rattle.std.proofs.Common.{sym, ap, ◌∙◌, le-leb}
-use borrow.Author.Tests.{lt-leb}
+use Rattle.std.proofs.Common.{ap, ◌∙◌}
 use Rattle.wire.specs.Version.{stamp}
-use Rattle.wire.proofs.Numbers.{pick_true, pick_false}
 use Rattle.table.specs.Parts.{fence_part}
+use Rattle.table.proofs.Laws.{ap_pick}
 use Rattle.table.proofs.fence.Goals as goal
-
-pub returns-then-t-lt-HEAD_SIZE : goal.returns-then-t-lt-HEAD_SIZE
-unfolding fence_part
-returns-then-t-lt-HEAD_SIZE c = sym (pick_false _ _ _ (lt-leb _ _ c.if-t-lt-HEAD_SIZE.true))
 
 pub returns : goal.returns
 unfolding fence_part
-returns c = ap stamp c.read.ensures ∙ sym (pick_true _ _ _ (le-leb _ _ c.if-t-lt-HEAD_SIZE.false))
+returns c = ap stamp c.in_head.ensures ∙ ap_pick stamp _ _ _

@@ -1,20 +1,25 @@
 -- `table::find` meets its contract: a key of another length stands nowhere, and a slot has a key if and only if it has its two halves.
-use Rattle.std.proofs.Common.{◌≤◌, ◌-◌, ◌*◌, sym, arith, length}
+use Rattle.std.proofs.Common.{◌≤◌, ◌-◌, ◌*◌, sym, ◌∙◌, ap₂, arith, length}
+use Rattle.std.specs.Prelude.{position}
 use Rattle.be.specs.Be.{Bytes}
-use Rattle.store.specs.Table.{head_size, row_size, whole_slots}
-use Rattle.table.proofs.Laws.{find_halves, find_no_key}
+use Rattle.store.specs.Table.{slot_of, head_size, row_size, whole_slots}
+use Rattle.table.specs.Parts.{has_halves}
+use Rattle.table.proofs.Laws.{first_row, find_halves, find_no_key}
 use Rattle.table.proofs.find.Goals as goal
 
-pub returns-then-key-ne-KEY_SIZE : goal.returns-then-key-ne-KEY_SIZE
-returns-then-key-ne-KEY_SIZE c =
+pub returns-in_err-as_array : goal.returns-in_err-as_array
+returns-in_err-as_array c =
     let s = c.args in
-    sym (find_no_key s.key.now s.t.now (whole_slots s.t.now) c.if-key-ne-KEY_SIZE.true (omega arith))
+    c.from_residual.ensures ∙ sym (find_no_key s.key.now s.t.now (whole_slots s.t.now) c.in_err-as_array.ensures.cases (omega arith))
 
 pub returns : goal.returns
 returns c =
     let s = c.args in
+    let k = c.in_ok-as_array.ensures.cases in
     let bt : Bytes s.t.now = λ i h. omega (arith, c.type_inv.t i) in
     let bk : Bytes s.key.now = λ i h. omega (arith, c.type_inv.key i) in
     let room : row_size * whole_slots s.t.now ≤ length s.t.now - head_size = omega arith in
-    rw (c.scan.ensures, c.whole.ensures)
-    (find_halves s.key.now s.t.now (whole_slots s.t.now) c.if-key-ne-KEY_SIZE.false bk bt room)
+    c.scan.ensures
+    ∙ ap₂ (λ x l. position (λ r. has_halves x (slot_of r)) l) k.same c.rows.ensures.value
+    ∙ first_row (has_halves s.key.now) s.t.now
+    ∙ find_halves s.key.now s.t.now (whole_slots s.t.now) k.long bk bt room

@@ -7,15 +7,15 @@ use Rattle.table.specs.Parts.{slot_stored, sized}
 use Rattle.table.proofs.Laws.{store_part}
 use Rattle.table.proofs.store.Goals as goal
 
-pub returns-then-i-whole : goal.returns-then-i-whole
-returns-then-i-whole c =
+pub returns-then-i-rows : goal.returns-then-i-rows
+returns-then-i-rows c =
     let s = c.args in
     let k = add-sub_cancel_left (row_at s.i) row_size in
     rw k (store_part s.t.now s.i (slot s.key.now s.state s.v s.value.now) c.write_slot.new.part (omega arith) (rw k at c.write_slot.ensures))
 
-pub returns-else-i-whole : goal.returns-else-i-whole
+pub returns-else-i-rows : goal.returns-else-i-rows
 unfolding slot_stored
-returns-else-i-whole c =
+returns-else-i-rows c =
     let s = c.args in
     let h : ltb s.i (whole_slots s.t.now) ≡ false = le-ltb s.i (whole_slots s.t.now) (omega arith) in
     sym (pick_false _ _ _ (ap (λ (b : Bool). b && sized (slot s.key.now s.state s.v s.value.now)) h))

@@ -13,6 +13,6 @@ returns-then-r-eq-ROW_SIZE c =
     ∙ ap₂ version c.read.ensures c.read-then-r-eq-ROW_SIZE.ensures
     ∙ sym (pick_true _ _ _ (eq-eqb _ _ c.if-r-eq-ROW_SIZE.true))
 
-pub returns : goal.returns
+pub returns-else-r-eq-ROW_SIZE : goal.returns-else-r-eq-ROW_SIZE
 unfolding version_part
-returns c = c.new-2.ensures ∙ sym (pick_false _ _ _ (ne_eqb _ _ c.if-r-eq-ROW_SIZE.false))
+returns-else-r-eq-ROW_SIZE c = ap₂ version c.default.ensures.0 c.default.ensures.1 ∙ sym (pick_false _ _ _ (ne_eqb _ _ c.if-r-eq-ROW_SIZE.false))

@@ -1,29 +1,33 @@
 -- `node::ask`: rows 4, 7 and 8, then what `look` settles.
-use mathlib.Core.Path.{◌∙◌}
 use Rattle.std.proofs.Common.{rules}
-use Rattle.node.specs.Queries.{table_asked, asked_by}
-use Rattle.node.proofs.Laws.{id_asked, fence_asked, elsewhere_way, below_way, sessionless_way, behind_way}
+use Rattle.wire.specs.Numbers.{guard}
+use Rattle.steps.specs.Node.{node_step}
+use Rattle.node.proofs.Laws.{id_asked, fence_asked}
 use Rattle.node.proofs.Query.ask.Goals as goal
 
 pub returns-then-h-id : goal.returns-then-h-id
+unfolding node_step guard
 returns-then-h-id c =
-    let q = c.args.self.now in
-    elsewhere_way (table_asked q) (asked_by q) (rw (id_asked q c.id.ensures) at c.if-h-id.true)
+    let i = id_asked c.args.self.now c.id.ensures in
+    search rules
 
 pub returns-then-lt : goal.returns-then-lt
+unfolding node_step guard
 returns-then-lt c =
-    let q = c.args.self.now in
-    let f = fence_asked q c.fence.ensures in
-    below_way (table_asked q) (asked_by q) (rw (id_asked q c.id.ensures) at c.if-h-id.false) (search rules)
+    let i = id_asked c.args.self.now c.id.ensures in
+    let f = fence_asked c.args.self.now c.fence.ensures in
+    search rules
 
 pub returns-then-is_read-eq : goal.returns-then-is_read-eq
+unfolding node_step guard
 returns-then-is_read-eq c =
-    let q = c.args.self.now in
-    let f = fence_asked q c.fence.ensures in
-    sessionless_way (table_asked q) (asked_by q) (rw (id_asked q c.id.ensures) at c.if-h-id.false) (search rules) (search rules)
+    let i = id_asked c.args.self.now c.id.ensures in
+    let f = fence_asked c.args.self.now c.fence.ensures in
+    search rules
 
 pub returns : goal.returns
+unfolding node_step guard
 returns c =
-    let q = c.args.self.now in
-    let f = fence_asked q c.fence.ensures in
-    behind_way (table_asked q) (asked_by q) (rw (id_asked q c.id.ensures) at c.if-h-id.false) (search rules) (search rules) ∙ c.look.ensures
+    let i = id_asked c.args.self.now c.id.ensures in
+    let f = fence_asked c.args.self.now c.fence.ensures in
+    search rules

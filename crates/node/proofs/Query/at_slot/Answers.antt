@@ -1,8 +1,10 @@
 -- `node::at_slot`: a read by the state, a write or delete as it is taken.
 use Rattle.std.proofs.Common.{rules}
 use Rattle.std.proofs.lemmas.Result.{err_from_is_err_and}
-use Rattle.node.specs.Queries.{table_asked, asked_by}
-use Rattle.node.proofs.Laws.{rules_of, state_at, version_at, value_way, no_value_way}
+use Rattle.wire.specs.Numbers.{guard, pick}
+use Rattle.steps.specs.Node.{at_slot, answered}
+use Rattle.node.specs.Ways.{sent_by}
+use Rattle.node.proofs.Laws.{rules_of, state_at, version_at}
 use Rattle.node.proofs.Query.at_slot.Goals as goal
 
 pub returns-in_err-version : goal.returns-in_err-version
@@ -17,15 +19,17 @@ returns-then-not-is_read c =
     c.in_ok-version.ensures c.args.i (version_at g c.args.i c.row-row.ensures c.version-stored.ensures)
 
 pub returns-then-state : goal.returns-then-state
+unfolding guard pick at_slot answered sent_by
 returns-then-state c =
-    let q = c.args.self.now in
-    let g = rules_of q.rules in
-    let i = c.args.i in
-    value_way (table_asked q) (asked_by q) i (version_at g i c.row-row.ensures c.version-stored.ensures) (search rules) (state_at g i c.row-row.ensures c.state.ensures) c.if-state.true
+    let g = rules_of c.args.self.now.rules in
+    let v = version_at g c.args.i c.row-row.ensures c.version-stored.ensures in
+    let n = state_at g c.args.i c.row-row.ensures c.state.ensures in
+    search rules
 
 pub returns : goal.returns
+unfolding guard pick at_slot answered sent_by
 returns c =
-    let q = c.args.self.now in
-    let g = rules_of q.rules in
-    let i = c.args.i in
-    no_value_way (table_asked q) (asked_by q) i (version_at g i c.row-row.ensures c.version-stored.ensures) (search rules) (state_at g i c.row-row.ensures c.state.ensures) c.if-state.false
+    let g = rules_of c.args.self.now.rules in
+    let v = version_at g c.args.i c.row-row.ensures c.version-stored.ensures in
+    let n = state_at g c.args.i c.row-row.ensures c.state.ensures in
+    search rules

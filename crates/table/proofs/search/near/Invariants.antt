@@ -1,10 +1,9 @@
--- The loop's invariant: k is the lowest of the slots from i + j on. The measure is j.
-use Rattle.std.proofs.Common.{◌+◌, ◌-◌, ◌≤◌, ◌≡◌}
-use Rattle.table.specs.Parts.{first_half, lowest}
+-- The loop's invariant: k is the place of the first that fits among those done.
+use Rattle.std.specs.Slice.Iter.{iter_rest}
+use Rattle.std.specs.Iterator.Adapters.{rev_source}
+use Rattle.table.specs.Parts.{same_half}
+use Rattle.table.proofs.Laws.{Counted}
 use Rattle.table.proofs.search.near.Given as goal
 
-abbrev pub invariant-loop-j : goal.invariant-loop-j
-invariant-loop-j l = (l.j ≤ 8) × (l.k ≡ lowest (first_half l.key l.t) (l.i + l.j) (8 - l.j))
-
-abbrev pub decreases-loop-j : goal.decreases-loop-j
-decreases-loop-j l = l.j
+abbrev pub invariant-loop-r : goal.invariant-loop-r
+invariant-loop-r l = Counted (same_half l.key) l.eight (iter_rest (rev_source l.r-iterator)) l.k
