@@ -16,6 +16,7 @@ fn zeros(part: &[u8]) -> bool
 }
 
 // Zeros from `at` to the end of a row: in the first k of these bytes and in the last k, where no byte is between.
+#[tactic(auto, using(crate::proofs::Laws::zero_ends))]
 fn ends_zero(r: &Row, at: usize, k: usize) -> bool
     requires { (at + k ≤ row_size) × (row_size ≤ at + k + k) }
     ensures { result ≡ all_zero (drop at r.now) }
@@ -38,6 +39,7 @@ fn tail_ok(r: &Row, n: usize) -> bool
     }
 }
 
+#[tactic(auto, using(crate::proofs::Laws::version_is, crate::proofs::Laws::row_unused, crate::proofs::Laws::row_valued, crate::proofs::Laws::row_bare))]
 pub(crate) fn row_ok(r: &Row) -> bool
     ensures { result ≡ row_ok r.now }
 {

@@ -8,6 +8,7 @@ use crate::{Key, Row};
 use store::{STATE_AT, State};
 
 // Whether a slot is used and has the key.
+#[tactic(auto, using(crate::proofs::Laws::halves_row), unfolding(crate::specs::Parts::same_half))]
 fn holds(r: &Row, key: &Key) -> bool
     ensures { result ≡ has_halves key.now (slot_of r.now) }
 {
