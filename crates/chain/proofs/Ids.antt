@@ -90,11 +90,10 @@ unfolding ids_ok apart none_above
 ids_none top [] e = refl
 ids_none top (x ∷ l) e = absurd (omega arith)
 
-pub ids_turn : (top x : ℕ) (l : List ℕ) → ids_ok top (x ∷ l) ≡ (not (eqb x 0 || (list_any (λ y. eqb y x) l || ltb top x)) && ids_ok top l)
+pub ids_turn : (top x : ℕ) (l : List ℕ) → ids_ok top (x ∷ l) ≡ (not (eqb x 0 || (memb x l || ltb top x)) && ids_ok top l)
 unfolding ids_ok apart none_above
 ids_turn top x l =
     go (eqb x 0) (memb x l) (dec_lt top x)
-    ∙ ap (λ (b : Bool). not (eqb x 0 || (b || ltb top x)) && (apart l && none_above top l)) (memb_any x l)
   where
     go : (a b : Bool) → Dec (top < x) → ((not a && (not b && apart l)) && (leb x top && none_above top l)) ≡ (not (a || (b || ltb top x)) && (apart l && none_above top l))
     go true b d = refl

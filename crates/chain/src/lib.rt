@@ -37,17 +37,23 @@ fn seek(ids: &[u16], id: u16) -> usize
     ids.iter().position(|x| *x == id).unwrap_or(ids.len())
 }
 
+// By `any`: `contains` is made for long slices, and a relay step then took a tenth longer.
+fn has(ids: &[u16], id: u16) -> bool
+    ensures { result ≡ memb id ids.now }
+{
+    ids.iter().any(|x| *x == id)
+}
+
 pub fn place(c: Chain, id: u16) -> usize
     ensures { result ≡ place_of id (members c) }
 {
     seek(used(&c), id)
 }
 
-#[tactic(auto, using(crate::proofs::Ids::memb_any))]
 pub fn member(c: Chain, id: u16) -> bool
     ensures { result ≡ memb id (members c) }
 {
-    used(&c).contains(&id)
+    has(used(&c), id)
 }
 
 #[tactic(auto, using(crate::proofs::Ids::first_got))]
@@ -80,7 +86,7 @@ fn ids_ok(mut ids: &[u16], highest: u16) -> bool
     ensures { result ≡ ids_ok highest ids.now }
 {
     while let Some((id, rest)) = ids.split_first() {
-        if *id == 0 || rest.contains(id) || highest < *id {
+        if *id == 0 || has(rest, *id) || highest < *id {
             return false;
         }
         ids = rest;

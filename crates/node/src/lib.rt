@@ -70,22 +70,22 @@ impl<'a> Query<'a> {
         requires { Unnumbered (asked_by self.now) }
         ensures { (i : ℕ) → StoredAt i self.now stored → Settles self.now (Some i) (taken_at i result) }
     {
-        let asked = self.head.version;
-        if asked.session < stored.session {
+        let session = self.head.version.session;
+        if session < stored.session {
             return Err(Refusal::SessionOver);
         }
-        if asked.session != stored.session {
+        if session != stored.session {
             return Ok(Version {
+                session,
                 sequence: Sequence(1),
-                ..asked
             });
         }
         if stored.sequence.last() {
             return Err(Refusal::NoNumberLeft);
         }
         Ok(Version {
+            session,
             sequence: stored.sequence.next(),
-            ..asked
         })
     }
 
@@ -94,12 +94,11 @@ impl<'a> Query<'a> {
         requires { Alters (asked_by self.now) }
         ensures { (i : ℕ) → StoredAt i self.now stored → Settles self.now (Some i) (taken_at i result) }
     {
-        let asked = self.head.version;
-        if asked.sequence == Sequence(0) {
+        if self.head.version.sequence == Sequence(0) {
             return self.number(stored);
         }
-        if asked.newer(stored) {
-            return Ok(asked);
+        if self.head.version.newer(stored) {
+            return Ok(self.head.version);
         }
         Err(Refusal::NotNewer)
     }

@@ -3,12 +3,12 @@ use Prim.Native.Nat.{ℕ, zero, suc, ◌+◌, ◌*◌, ◌-◌, ◌/◌, ◌<◌
 use mathlib.Core.Path.{◌≡◌, refl, sym, ap, ap₂, ◌∙◌}
 use mathlib.Core.List.{List, [], ◌∷◌, ◌++◌, map, append_assoc, append-nil}
 use mathlib.Core.Bool.{Bool, true, false, ◌&&◌, ◌||◌, not, cond, or-false, and-true, and-false, and_assoc}
-use mathlib.Core.Logic.{◌↔◌, inr}
+use mathlib.Core.Logic.{◌↔◌}
 use native.Mathlib.Nat.{zero-add, add-zero, add_comm, mul-zero, mul-suc, add-sub_cancel_left}
 use native.Mathlib.Omega.{arith}
 use native.Mathlib.Decide.{dec_lt, ℕ_discrete}
 use native.Mathlib.Numerals.{add-one}
-use lib.ListN.{length, get_or, take, drop, set, replicate, length-set, drop_of_length-le, length-drop, length-take, length-append, length-replicate, replicate-append-replicate}
+use lib.ListN.{length, get_or, take, drop, replicate, drop_of_length-le, length-drop, length-take, length-append, length-replicate, replicate-append-replicate}
 use Rattle.std.proofs.lemmas.List.{drop-take, take-append-drop}
 use lib.Seq.{drop_at, drop-drop, get_or-drop, get_or-take, length-take-le, take_all, slice, take-add}
 use lib.Dec.{eqb, ltb, leb}
@@ -18,7 +18,7 @@ use Rattle.be.proofs.Laws.{Front, start, grow, finish, be_take, be_injective, pa
 use Rattle.wire.specs.Numbers.{pick}
 use Rattle.wire.specs.Packet.{key_size, value_size}
 use Rattle.wire.specs.Version.{version, is_zero, is_given}
-use Rattle.wire.proofs.Numbers.{Reflects, reflects_yes, reflects_no, reflect_eqb, reflect_ltb, reflect_leb, reflect_not, reflect_or, reflect_and, pick_true, pick_false, pick_case}
+use Rattle.wire.proofs.Numbers.{Reflects, reflects_yes, reflects_no, reflect_eqb, reflect_ltb, reflect_leb, reflect_not, reflect_and, pick_true, pick_false}
 use Rattle.std.specs.Prelude.{Option, Some, None, position, fold}
 use Rattle.std.specs.List.{slice_range, position_from, position_or_len, list_all}
 use Rattle.std.specs.Option.{option_map}
@@ -30,10 +30,6 @@ use Rattle.store.proofs.Rows.{length_tab, get_or_tab, length_slots, get_or_slots
 use Rattle.store.proofs.Rules.{reflect_zero, bytes_row}
 use Rattle.store.proofs.Find.{reflect_has, has_other, none_find}
 use Rattle.table.specs.Parts.{id_part, count_part, rows_of, row_part, version_part, has_halves, same_half, sized, slot_written, slot_stored, slot_copied}
-
--- what a function gives of the one picked
-pub ap_pick : {A B : Type 0} (f : A → B) (b : Bool) (x y : A) → f (pick b x y) ≡ pick b (f x) (f y)
-ap_pick f b x y = pick_case (λ z. f z ≡ pick b (f x) (f y)) b x y (λ e. sym (pick_true b (f x) (f y) e)) (λ e. sym (pick_false b (f x) (f y) e))
 
 -- two tests of one fact are equal
 same_test : {a b : Bool} {P Q : Type 0} → Reflects a P → Reflects b Q → P ↔ Q → a ≡ b
@@ -380,10 +376,6 @@ frame_parts t = go (leb head_size (length t)) refl
 
 -- ---- what is written
 
--- two stores keep the length
-pub length_stored : (l : List ℕ) (i j a b : ℕ) → length (set (set l i a) j b) ≡ length l
-length_stored l i j a b = simp length-set
-
 -- the end of a list that was cleared
 pub drop_cleared : (l : List ℕ) (at m k : ℕ) → at + m ≡ length l → k ≤ m → drop (at + k) (put l at (replicate m 0)) ≡ replicate (m - k) 0
 unfolding put
@@ -438,14 +430,6 @@ module _ (from to : List ℕ) (i : ℕ) where
   pub not_copied : ((i < whole_slots from) × (i < whole_slots to) → ⊥) → slot_copied from to i ≡ to
   unfolding slot_copied
   not_copied n = pick_false _ _ _ (reflects_no both n)
-
--- a blank table is made only in a slice of its length
-pub blank_room : (t : List ℕ) (id n : ℕ) → (eqb id 0 || (eqb n 0 || (ltb most_slots n || not (eqb (length t) (row_at n))))) ≡ false → length t ≡ row_at n
-blank_room t id n e = go (ℕ_discrete (length t) (row_at n))
-  where
-    go : Dec (length t ≡ row_at n) → length t ≡ row_at n
-    go (yes p) = p
-    go (no p) = absurd ((reflect_or (reflect_eqb id 0) (reflect_or (reflect_eqb n 0) (reflect_or (reflect_ltb most_slots n) (reflect_not (reflect_eqb (length t) (row_at n)))))).1 e (inr (inr (inr p))))
 
 -- zeros, and then the id and the count behind the fence
 pub blanked : (t : List ℕ) (id n : ℕ) {z b c : List ℕ} → length t ≡ row_at n → z ≡ put t 0 (replicate (length t) 0) → b ≡ put z 4 (digits 2 id) → c ≡ put b 6 (digits 2 n) → c ≡ blank_bytes id n

@@ -45,7 +45,7 @@ fn in_head<T: Number + Copy>(t: &[u8], at: usize, other: T) -> T
     }
 }
 
-#[tactic(auto, unfolding(crate::specs::Parts::fence_part))]
+#[tactic(auto, unfolding(crate::specs::Parts::fence_part, wire::specs::Numbers::pick))]
 pub fn fence(t: &[u8]) -> Stamp
     ensures { result ≡ fence_part t.now }
 {
@@ -69,6 +69,7 @@ pub fn count(t: &[u8]) -> u16
 // ---- the parts of a slot
 
 // The whole slots that a slice has, a table or not.
+#[tactic(auto, using(crate::proofs::Laws::chunks_rows, crate::proofs::Laws::no_rows, crate::proofs::Laws::length_rows))]
 fn rows(t: &[u8]) -> &[Row]
     ensures value { result.now ≡ rows_of t.now }
     ensures len { length result.now ≡ whole_slots t.now }
@@ -80,6 +81,7 @@ fn rows(t: &[u8]) -> &[Row]
 }
 
 // The bytes of slot i, a part of the slice; none where it has no whole slot i.
+#[tactic(auto, using(crate::proofs::Laws::row_there, crate::proofs::Laws::row_nowhere))]
 pub fn row(t: &[u8], i: usize) -> &[u8]
     ensures { result.now ≡ row_part t.now i }
 {
@@ -89,6 +91,7 @@ pub fn row(t: &[u8], i: usize) -> &[u8]
     }
 }
 
+#[tactic(auto, unfolding(wire::specs::Numbers::pick, crate::specs::Parts::state_part, store::specs::Table::slot_of))]
 pub fn state(r: &[u8]) -> u8
     ensures { result ≡ state_part r.now }
 {
@@ -99,6 +102,7 @@ pub fn state(r: &[u8]) -> u8
     }
 }
 
+#[tactic(auto, unfolding(wire::specs::Numbers::pick, crate::specs::Parts::version_part, store::specs::Table::slot_of))]
 pub fn version(r: &[u8]) -> Version
     ensures { result ≡ version_part r.now }
 {
@@ -110,6 +114,7 @@ pub fn version(r: &[u8]) -> Version
 }
 
 // The value, a part of the row: no more than there is, whatever the length byte says.
+#[tactic(auto, unfolding(crate::specs::Parts::value_part, wire::specs::Numbers::pick))]
 pub fn value(r: &[u8]) -> &[u8]
     ensures { result.now ≡ value_part r.now }
 {
@@ -123,6 +128,7 @@ pub fn value(r: &[u8]) -> &[u8]
 // ---- which slot
 
 // The lowest used slot that has the key, of a table or any other slice.
+#[tactic(auto, using(crate::proofs::Laws::find_no_key))]
 pub fn find(t: &[u8], key: &[u8]) -> Option<usize>
     ensures { result ≡ find key.now (slots (whole_slots t.now) t.now) }
 {
@@ -139,6 +145,7 @@ pub fn lowest_free(t: &[u8]) -> Option<usize>
 
 // ---- the check
 
+#[tactic(auto, using(crate::proofs::Laws::frame_parts))]
 fn frame_ok(t: &[u8]) -> bool
     ensures { result ≡ frame_ok t.now }
 {
@@ -172,6 +179,7 @@ pub fn write_slot(part: &mut [u8], key: &[u8], state: u8, v: Version, value: &[u
 }
 
 // Slot i of a table: only its bytes are lent to the slot writer.
+#[tactic(auto, unfolding(crate::specs::Parts::slot_stored, wire::specs::Numbers::pick))]
 pub fn store(t: &mut [u8], i: usize, key: &[u8], state: u8, v: Version, value: &[u8])
     ensures { t.new ≡ slot_stored t.old i (slot key.now state v value.now) }
 {
@@ -181,6 +189,7 @@ pub fn store(t: &mut [u8], i: usize, key: &[u8], state: u8, v: Version, value: &
     }
 }
 
+#[tactic(auto, unfolding(wire::specs::Numbers::pick, crate::specs::Parts::fence_set))]
 pub fn set_fence(t: &mut [u8], n: Stamp)
     ensures { t.new ≡ fence_set t.old n }
 {
@@ -190,6 +199,7 @@ pub fn set_fence(t: &mut [u8], n: Stamp)
 }
 
 // Slot i of one table to slot i of another.
+#[tactic(auto, using(crate::proofs::Laws::copied, crate::proofs::Laws::not_copied, crate::proofs::Laws::row_got, store::proofs::Rows::length_row))]
 pub fn copy_slot(from: &[u8], to: &mut [u8], i: usize)
     ensures { to.new ≡ slot_copied from.now to.old i }
 {
@@ -211,6 +221,7 @@ fn clear(t: &mut [u8], id: u16, n: u16)
 }
 
 // Makes a blank table of the slice, or writes nothing.
+#[tactic(auto, unfolding(store::specs::Table::blank_call, wire::specs::Numbers::guard))]
 pub fn blank(t: &mut [u8], id: u16, count: u16) -> Result<(), Refusal>
     ensures { BlankGives t.old id count (code result) t.new }
 {

@@ -3,10 +3,10 @@
 // Versions, and the fields of a packet.
 #![tactic(auto)]
 
-ghost use Rattle.std.specs.Prelude.{◌≡◌, Bool, true, false};
+ghost use Rattle.std.specs.Prelude.{◌≡◌, Bool, true, false, refl};
 ghost use Rattle.wire.specs.Numbers.{pick, refusal_number, code, first_number, tests_of};
 ghost use Rattle.wire.specs.Kinds.{session_stays, sequence_stays, stamp_stays};
-ghost use Rattle.wire.specs.Version.{version, last_session, next_session, last_sequence, next_sequence, last_stamp, next_stamp, newer, is_zero, is_given, is_orderly};
+ghost use Rattle.wire.specs.Version.{version, session, sequence, stamp, top_session, top_sequence, top_stamp, last_session, next_session, last_sequence, next_sequence, last_stamp, next_stamp, newer, is_zero, is_given, is_orderly};
 
 // All of a packet but its value; the key; the most of a value; what an outlet must hold.
 pub const FRONT_SIZE: usize = 40;
@@ -124,6 +124,8 @@ pub struct Head {
 
 // A kind of numbers that grow by one.
 pub trait Kind: Copy + PartialEq {
+    ghost TOP: { Self };
+
     ghost is_last: { Self → Bool };
 
     ghost after: { Self → Self };
@@ -137,8 +139,11 @@ pub trait Kind: Copy + PartialEq {
         ensures { result ≡ after self };
 
     // Whether no number comes after this one.
-    fn last(self) -> bool
-        ensures { result ≡ is_last self };
+    final fn last(self) -> bool
+        ensures { result ≡ is_last self }
+    {
+        self == Self::TOP
+    }
 
     // The number after this one; the last stays as it is.
     final fn next(self) -> Self
@@ -147,10 +152,14 @@ pub trait Kind: Copy + PartialEq {
         if self.last() { self } else { self.raised() }
     }
 
+    ghost tops: { (n : Self) → Self.PartialEq.eq n TOP ≡ is_last n };
+
     ghost stays: { (n : Self) → is_last n ≡ true → after n ≡ n };
 }
 
 impl Kind for Session {
+    ghost TOP = { session top_session };
+
     ghost is_last = { last_session };
 
     ghost after = { next_session };
@@ -161,14 +170,14 @@ impl Kind for Session {
         Session(self.0 + 1)
     }
 
-    fn last(self) -> bool {
-        self == Session::TOP
-    }
+    ghost tops = { λ n. refl };
 
     ghost stays = { session_stays };
 }
 
 impl Kind for Sequence {
+    ghost TOP = { sequence top_sequence };
+
     ghost is_last = { last_sequence };
 
     ghost after = { next_sequence };
@@ -179,14 +188,14 @@ impl Kind for Sequence {
         Sequence(self.0 + 1)
     }
 
-    fn last(self) -> bool {
-        self == Sequence::TOP
-    }
+    ghost tops = { λ n. refl };
 
     ghost stays = { sequence_stays };
 }
 
 impl Kind for Stamp {
+    ghost TOP = { stamp top_stamp };
+
     ghost is_last = { last_stamp };
 
     ghost after = { next_stamp };
@@ -197,9 +206,7 @@ impl Kind for Stamp {
         Stamp(self.0 + 1)
     }
 
-    fn last(self) -> bool {
-        self == Stamp::TOP
-    }
+    ghost tops = { λ n. refl };
 
     ghost stays = { stamp_stays };
 }

@@ -1,16 +1,11 @@
 -- `table::find` meets its contract: a key of another length stands nowhere, and a slot has a key if and only if it has its two halves.
-use Rattle.std.proofs.Common.{◌≤◌, ◌-◌, ◌*◌, sym, ◌∙◌, ap₂, arith, length}
+use Rattle.std.proofs.Common.{◌≤◌, ◌-◌, ◌*◌, ◌∙◌, ap₂, arith, length}
 use Rattle.std.specs.Prelude.{position}
 use Rattle.be.specs.Be.{Bytes}
 use Rattle.store.specs.Table.{slot_of, head_size, row_size, whole_slots}
 use Rattle.table.specs.Parts.{has_halves}
-use Rattle.table.proofs.Laws.{first_row, find_halves, find_no_key}
+use Rattle.table.proofs.Laws.{first_row, find_halves}
 use Rattle.table.proofs.find.Goals as goal
-
-pub returns-in_err-as_array : goal.returns-in_err-as_array
-returns-in_err-as_array c =
-    let s = c.args in
-    c.from_residual.ensures ∙ sym (find_no_key s.key.now s.t.now (whole_slots s.t.now) c.in_err-as_array.ensures.cases (omega arith))
 
 pub returns : goal.returns
 returns c =

@@ -1,9 +1,7 @@
 -- `table::store` meets its contract: the part that was lent is the only one that changes.
-use Rattle.std.proofs.Common.{Bool, ◌&&◌, false, ◌≡◌, sym, ap, arith, le-ltb, ltb}
+use Rattle.std.proofs.Common.{arith}
 use native.Mathlib.Nat.{add-sub_cancel_left}
-use Rattle.wire.proofs.Numbers.{pick_false}
-use Rattle.store.specs.Table.{slot, row_at, row_size, whole_slots}
-use Rattle.table.specs.Parts.{slot_stored, sized}
+use Rattle.store.specs.Table.{slot, row_at, row_size}
 use Rattle.table.proofs.Laws.{store_part}
 use Rattle.table.proofs.store.Goals as goal
 
@@ -12,10 +10,3 @@ returns-then-i-rows c =
     let s = c.args in
     let k = add-sub_cancel_left (row_at s.i) row_size in
     rw k (store_part s.t.now s.i (slot s.key.now s.state s.v s.value.now) c.write_slot.new.part (omega arith) (rw k at c.write_slot.ensures))
-
-pub returns-else-i-rows : goal.returns-else-i-rows
-unfolding slot_stored
-returns-else-i-rows c =
-    let s = c.args in
-    let h : ltb s.i (whole_slots s.t.now) ≡ false = le-ltb s.i (whole_slots s.t.now) (omega arith) in
-    sym (pick_false _ _ _ (ap (λ (b : Bool). b && sized (slot s.key.now s.state s.v s.value.now)) h))

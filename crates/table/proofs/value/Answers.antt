@@ -1,16 +1,12 @@
 -- `table::value` meets its contract: a length byte over 128 gives all that stands behind it.
-use Rattle.std.proofs.Common.{ℕ, ◌≡◌, sym, ap, ◌∙◌, arith, eq-eqb, ne_eqb, length, take, drop, get_or, length-drop, min}
+use Rattle.std.proofs.Common.{ℕ, ◌≡◌, sym, ap, ◌∙◌, arith, eq-eqb, length, take, drop, get_or, length-drop, min}
 use Rattle.wire.specs.Packet.{value_size}
 use Rattle.table.proofs.Laws.{take_min}
 use native.Mathlib.Nat.{add-sub_cancel_left}
-use Rattle.wire.proofs.Numbers.{pick_true, pick_false}
+use Rattle.wire.proofs.Numbers.{pick_true}
 use Rattle.store.specs.Table.{slot_of, value_at, size_at}
 use Rattle.table.specs.Parts.{value_part}
 use Rattle.table.proofs.value.Goals as goal
-
-pub returns-then-r-ne-ROW_SIZE : goal.returns-then-r-ne-ROW_SIZE
-unfolding value_part
-returns-then-r-ne-ROW_SIZE c = sym (pick_false _ _ _ (ne_eqb _ _ c.if-r-ne-ROW_SIZE.true))
 
 pub returns : goal.returns
 unfolding value_part slot_of
