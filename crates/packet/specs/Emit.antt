@@ -3,10 +3,6 @@ use Rattle.std.specs.Prelude.{ℕ, Bool, ◌&&◌, List, leb, eqb, length}
 use Rattle.wire.specs.Numbers.{pick}
 use Rattle.wire.specs.Packet.{Packet, key_size, value_size, outlet_size, sent_in}
 
--- where a packet's session stands, and all that is put behind the stamp starts
-abbrev pub session_at : ℕ
-session_at = 16
-
 -- the outlet is large enough, and key and value have lengths that a packet can have
 unfoldable pub room : List ℕ → Packet → Bool
 room out p = leb outlet_size (length out) && (eqb (length p.key) key_size && leb (length p.value) value_size)
