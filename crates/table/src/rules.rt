@@ -8,7 +8,6 @@ use store::{ROW_SIZE, SIZE_AT, STATE_AT, State, VALUE_AT};
 use wire::VALUE_SIZE;
 
 // Only zeros. There is no way out before the last one, as `all` has: so many bytes are tested at once.
-#[tactic(auto, using(crate::proofs::Laws::zeros_fold))]
 fn zeros(part: &[u8]) -> bool
     ensures { result ≡ all_zero part.now }
 {
