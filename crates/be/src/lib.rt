@@ -6,7 +6,7 @@ ghost use Rattle.std.proofs.Common.{ap, sym};
 ghost use Rattle.std.proofs.Math.Nat.{mod-eq_of_lt};
 ghost use Rattle.be.specs.Be.{be, digits, put};
 
-// A number of some bytes, the highest first.
+// A number of some bytes, the highest first. Each size has an impl of its own: std converts each type by its own methods, and no macro writes one.
 pub trait Number {
     // how many bytes it has
     ghost SIZE: { ℕ };
@@ -126,7 +126,7 @@ impl Number for u64 {
     }
 }
 
-// The number that stands at `at`: a load, and a turn of its bytes.
+// The number that stands at `at`: a load, and a turn of its bytes. A struct of slice and place would be made for each call alone.
 #[tactic(auto, using(crate::proofs::Laws::be_part))]
 pub fn read<T: Number>(s: &[u8], at: usize) -> T
     requires { at + T.SIZE ≤ length s.now }

@@ -14,7 +14,7 @@ use wire::{Refusal, Session, Stamp};
 
 pub const MOST_NODES: usize = 8;
 
-// ---- the ids of a chain
+// ---- the ids of a chain; none is told as 0, as in `first_of`, `last_of` and `next_of`
 
 // The ids of the chain: the places that its length takes, of the eight that there are.
 fn used(c: &Chain) -> &[u16]

@@ -202,7 +202,7 @@ fn written(op: u8) -> u8
     }
 }
 
-// A taken write or delete stores content and version; any other answer stores nothing.
+// A taken write or delete stores content and version; any other answer stores nothing. The table is written here, so no query has it.
 fn store_taken(reply: Reply, table: &mut [u8], packet: &[u8], h: Head)
     requires { Comes table.old packet.now h reply }
     ensures { table.new ≡ write_bytes (sent_by (table_of table.old) (asked h packet.now) reply).write table.old }

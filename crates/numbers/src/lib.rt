@@ -72,6 +72,7 @@ fn byte(n: u32) -> u8
 
 // ---- the record, coming in
 
+// Each of the eight is tested, with no way out before: a relay step asks this of every record.
 fn places_fit(l: &Record) -> bool
     ensures { result ≡ within top_id 8 l.now 1 }
 {
@@ -212,7 +213,7 @@ fn id_or(ids: &[u16], i: usize) -> u16
     ids.get(i).copied().unwrap_or(0)
 }
 
-// The eight places that ids take, unused ones 0.
+// The eight places that ids take, unused ones 0. They stand one by one: what `from_fn` says of its calls did not make the definition.
 pub fn places_of(ids: &[u16]) -> [u16; 8]
     ensures { result ≡ places_of ids.now }
 {

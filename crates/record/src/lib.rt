@@ -37,6 +37,7 @@ fn open_rows(c: Chain, after: bool, named: u16, fresh: u16) -> Result<(), Refusa
     ])
 }
 
+// After the named node, or before it: a Bool, as in `open_call`.
 pub fn open(c: &mut Chain, after: bool, named: u16, fresh: u16) -> Result<(), Refusal>
     ensures { ChainGives c.old (open_call c.old after named fresh) (code result) c.new }
 {
@@ -59,7 +60,7 @@ pub fn open(c: &mut Chain, after: bool, named: u16, fresh: u16) -> Result<(), Re
 
 // ---- activate
 
-// Whether the new node would be first.
+// Whether the new node would be first: of a node before another alone.
 fn becomes_first(c: Chain) -> bool
     ensures { result ≡ becomes_first c c.change }
 {
@@ -69,7 +70,7 @@ fn becomes_first(c: Chain) -> bool
     }
 }
 
-// The place that the new node takes.
+// The place that the new node takes, another one on each side.
 #[tactic(auto, using(chain::proofs::Ids::place_low))]
 fn join_place(c: Chain) -> usize
     ensures { result ≡ join_place c c.change }

@@ -51,7 +51,7 @@ impl<'a> Passage<'a> {
                 & (read | (!read & (h.version.sequence == Sequence(0)))))
     }
 
-    // Whether a change stops the packet, where it is addressed to a node.
+    // Whether a change stops the packet, where it is addressed to a node: a rule for each side.
     fn stops(&self, id: u16) -> bool
         ensures { result ≡ stops_at self.now.chain.change (is_read (passing self.now)) id }
     {

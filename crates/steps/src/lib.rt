@@ -40,7 +40,8 @@ impl Change {
     }
 }
 
-// The eight places are in chain order; those from length on are 0.
+// The eight places are in chain order; those from length on are 0. Document 01 names this form, an array of eight by value, and the rules of a
+// record judge length and places, so a broken one has to be there to be refused.
 #[derive(Clone, Copy)]
 pub struct Chain {
     pub length: u8,

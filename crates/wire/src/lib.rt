@@ -122,7 +122,7 @@ pub struct Head {
     pub length: u8,
 }
 
-// A kind of numbers that grow by one.
+// A kind of numbers that grow by one: an impl says which is the largest, and how one is raised.
 pub trait Kind: Copy + PartialEq {
     ghost TOP: { Self };
 
