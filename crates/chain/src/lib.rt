@@ -5,7 +5,7 @@
 ghost use Rattle.std.specs.Prelude.{◌≡◌, drop};
 ghost use Rattle.store.specs.Table.{all_zero};
 ghost use Rattle.wire.specs.Numbers.{said};
-ghost use Rattle.steps.specs.Chain.{members, memb, first_of, last_of, next_of, place_of, insert_at, remove_at, largest, joining_ok, change_ok, chain_ok, start_call};
+ghost use Rattle.steps.specs.Chain.{members, memb, first_of, last_of, next_of, place_of, insert_at, remove_at, largest, joining_ok, change_ok, chain_ok, start_chain, start_call};
 ghost use Rattle.chain.specs.Ids.{ids_ok};
 
 use steps::{Chain, Change, Joining};
@@ -168,10 +168,10 @@ pub fn remove(mut places: [u16; 8], at: usize) -> [u16; 8]
 
 // ---- at the start
 
-// A starting record, if it keeps the rules.
-#[tactic(auto, unfolding(steps::specs::Chain::start_call, steps::specs::Chain::start_chain, wire::specs::Numbers::guard))]
-pub fn start(length: u8, places: [u16; 8], count: u16) -> Result<Chain, Refusal>
-    ensures { said result ≡ start_call length places count }
+// The record of a start, whether or not it keeps the rules.
+#[tactic(auto, unfolding(steps::specs::Chain::start_chain))]
+pub fn starting(length: u8, places: [u16; 8], count: u16) -> Chain
+    ensures { result ≡ start_chain length places count }
 {
     let mut c = Chain {
         length,
@@ -183,5 +183,14 @@ pub fn start(length: u8, places: [u16; 8], count: u16) -> Result<Chain, Refusal>
         change: Change::Still,
     };
     c.highest = most(used(&c));
+    c
+}
+
+// A starting record, if it keeps the rules.
+#[tactic(auto, unfolding(steps::specs::Chain::start_call, wire::specs::Numbers::guard))]
+pub fn start(length: u8, places: [u16; 8], count: u16) -> Result<Chain, Refusal>
+    ensures { said result ≡ start_call length places count }
+{
+    let c = starting(length, places, count);
     if good(c) { Ok(c) } else { Err(Refusal::Broken) }
 }
