@@ -27,18 +27,29 @@ use Rattle.wire.proofs.Answers.{code_once}
 use Rattle.wire.proofs.number.Reads as number
 use Rattle.wire.proofs.first_of.Reads as first_of
 use Rattle.wire.proofs.Kind.last.Reads as last
-use Rattle.wire.proofs.Kind.next.Reads as next
 use Rattle.wire.proofs.SessionPartialEq.eq.Reads as session_same
 use Rattle.wire.proofs.SessionPartialOrd.partial_cmp.Reads as session_order
 use Rattle.wire.proofs.SequencePartialEq.eq.Reads as sequence_same
 use Rattle.wire.proofs.SequencePartialOrd.partial_cmp.Reads as sequence_order
 use Rattle.wire.proofs.StampPartialEq.eq.Reads as stamp_same
 use Rattle.wire.proofs.StampPartialOrd.partial_cmp.Reads as stamp_order
+use Rattle.wire.proofs.SessionKind.next.Reads as session_next
+use Rattle.wire.proofs.SequenceKind.next.Reads as sequence_next
+use Rattle.wire.proofs.StampKind.next.Reads as stamp_next
 use Rattle.wire.proofs.Version.new.Reads as version_new
 use Rattle.wire.proofs.Version.is_zero.Reads as version_zero
 use Rattle.wire.proofs.Version.is_given.Reads as version_given
 use Rattle.wire.proofs.Version.is_orderly.Reads as version_orderly
 use Rattle.wire.proofs.Version.newer.Reads as version_newer
+
+pub session_next_exact : Exact session_next.Asked session_next.Learnt (λ r e. r)
+session_next_exact = equation
+
+pub sequence_next_exact : Exact sequence_next.Asked sequence_next.Learnt (λ r e. r)
+sequence_next_exact = equation
+
+pub stamp_next_exact : Exact stamp_next.Asked stamp_next.Learnt (λ r e. r)
+stamp_next_exact = equation
 
 pub version_new_exact : Exact version_new.Asked version_new.Learnt (λ r e. r)
 version_new_exact = equation
@@ -67,10 +78,6 @@ first_of_once N F = record { one = λ κs a r s e f p q. code_once r s (p ∙ sy
 pub last_once : (T : RattleType) (L : Laws T) (C : IsCopy T) (n : Ghosts T.Denot) (d : Dict) (c : CloneGhosts T.Denot) (e : Dict) (q : EqGhosts T.Denot) (f : Dict)
     → Once (last.Learnt T L C n d c e q f) (λ r x. r)
 last_once T L C n d c e q f = equation_once
-
-pub next_once : (T : RattleType) (L : Laws T) (C : IsCopy T) (n : Ghosts T.Denot) (d : Dict) (c : CloneGhosts T.Denot) (e : Dict) (q : EqGhosts T.Denot) (f : Dict)
-    → Once (next.Learnt T L C n d c e q f) (λ r x. r)
-next_once T L C n d c e q f = equation_once
 
 -- ---- `==` and `<` of each kind, which are derived: `<` is by the order, and both are the definitions
 

@@ -1,4 +1,3 @@
 pub mod Numbers
 pub mod Version
 pub mod Packet
-pub mod Kinds

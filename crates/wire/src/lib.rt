@@ -5,7 +5,6 @@
 
 ghost use Rattle.std.specs.Prelude.{◌≡◌, Bool, true, false, refl};
 ghost use Rattle.wire.specs.Numbers.{pick, refusal_number, code, first_number, tests_of};
-ghost use Rattle.wire.specs.Kinds.{session_stays, sequence_stays, stamp_stays};
 ghost use Rattle.wire.specs.Version.{version, session, sequence, stamp, top_session, top_sequence, top_stamp, last_session, next_session, last_sequence, next_sequence, last_stamp, next_stamp, newer, is_zero, is_given, is_orderly};
 
 // All of a packet but its value; the key; the most of a value; what an outlet must hold.
@@ -122,7 +121,7 @@ pub struct Head {
     pub length: u8,
 }
 
-// A kind of numbers that grow by one: an impl says which is the largest, and how one is raised.
+// A kind of numbers that grow by one: an impl says which is the largest, and which comes after one.
 pub trait Kind: Copy + PartialEq {
     ghost TOP: { Self };
 
@@ -133,9 +132,8 @@ pub trait Kind: Copy + PartialEq {
     // The largest number of the kind.
     const TOP: Self;
 
-    // One more than a number that is not the largest.
-    fn raised(self) -> Self
-        requires { is_last self ≡ false }
+    // The number after this one; the last stays as it is.
+    fn next(self) -> Self
         ensures { result ≡ after self };
 
     // Whether no number comes after this one.
@@ -145,16 +143,7 @@ pub trait Kind: Copy + PartialEq {
         self == Self::TOP
     }
 
-    // The number after this one; the last stays as it is.
-    final fn next(self) -> Self
-        ensures { result ≡ after self }
-    {
-        if self.last() { self } else { self.raised() }
-    }
-
     ghost tops: { (n : Self) → Self.PartialEq.eq n TOP ≡ is_last n };
-
-    ghost stays: { (n : Self) → is_last n ≡ true → after n ≡ n };
 }
 
 impl Kind for Session {
@@ -166,13 +155,12 @@ impl Kind for Session {
 
     const TOP: Session = Session(65535);
 
-    fn raised(self) -> Session {
-        Session(self.0 + 1)
+    #[tactic(auto, unfolding(crate::specs::Version::next_session, crate::specs::Numbers::pick))]
+    fn next(self) -> Session {
+        Session(self.0.saturating_add(1))
     }
 
     ghost tops = { λ n. refl };
-
-    ghost stays = { session_stays };
 }
 
 impl Kind for Sequence {
@@ -184,13 +172,12 @@ impl Kind for Sequence {
 
     const TOP: Sequence = Sequence(4294967295);
 
-    fn raised(self) -> Sequence {
-        Sequence(self.0 + 1)
+    #[tactic(auto, unfolding(crate::specs::Version::next_sequence, crate::specs::Numbers::pick))]
+    fn next(self) -> Sequence {
+        Sequence(self.0.saturating_add(1))
     }
 
     ghost tops = { λ n. refl };
-
-    ghost stays = { sequence_stays };
 }
 
 impl Kind for Stamp {
@@ -202,13 +189,12 @@ impl Kind for Stamp {
 
     const TOP: Stamp = Stamp(4294967295);
 
-    fn raised(self) -> Stamp {
-        Stamp(self.0 + 1)
+    #[tactic(auto, unfolding(crate::specs::Version::next_stamp, crate::specs::Numbers::pick))]
+    fn next(self) -> Stamp {
+        Stamp(self.0.saturating_add(1))
     }
 
     ghost tops = { λ n. refl };
-
-    ghost stays = { stamp_stays };
 }
 
 impl Version {
