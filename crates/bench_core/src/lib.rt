@@ -19,7 +19,7 @@ struct World {
     parcels: Parcels,
 }
 
-// What a call of the register answered.
+// What a call of the register answered, by its number.
 fn answered(number: u8) -> Result<(), Fault> {
     if number == 0 {
         return Ok(());

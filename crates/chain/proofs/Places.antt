@@ -1,10 +1,10 @@
--- The eight places, once an id is inserted or removed by a turn of the places from there on.
-use Prim.Native.Nat.{ℕ, zero, suc, ◌-◌, ◌<◌, ◌≤◌}
+-- The eight places, once an id is inserted or removed by copying the places from there on.
+use Prim.Native.Nat.{ℕ, zero, suc, ◌+◌, ◌<◌, ◌≤◌}
 use mathlib.Core.Path.{◌≡◌, refl, sym, ap, ap₂, ◌∙◌, subst}
 use mathlib.Core.List.{List, [], ◌∷◌, ◌++◌}
 use native.Mathlib.Omega.{arith}
 use lib.ListN.{length, get_or, take, drop, set}
-use borrow.Rule.Slice.PartMut.{put_mid, mid_of}
+use Rattle.std.specs.List.{copy_within}
 use borrow.Author.Tests.{le-ltb}
 use Rattle.wire.specs.Numbers.{pick}
 use Rattle.wire.proofs.Numbers.{pick_false}
@@ -23,16 +23,9 @@ pub eight_are : (f : ℕ → ℕ) {a b c d e g h i : ℕ} → a ≡ f 0 → b �
     → a ∷ b ∷ c ∷ d ∷ e ∷ g ∷ h ∷ i ∷ [] ≡ tab most_nodes f
 eight_are f p q r s t u v w = ap₂ ◌∷◌ p (ap₂ ◌∷◌ q (ap₂ ◌∷◌ r (ap₂ ◌∷◌ s (ap₂ ◌∷◌ t (ap₂ ◌∷◌ u (ap₂ ◌∷◌ v (ap₂ ◌∷◌ w refl)))))))
 
--- the part from a place on, turned by one, to the right or to the left
-abbrev turned_right : List ℕ → List ℕ
-turned_right m = drop (length m - 1) m ++ take (length m - 1) m
-
-abbrev turned_left : List ℕ → List ℕ
-turned_left m = drop 1 m ++ take 1 m
-
 -- eight places of which nothing is known: each place computes
 inserted_eight : (f : ℕ → ℕ) (at id : ℕ) → at < most_nodes
-    → set (put_mid at (most_nodes - at) (tab most_nodes f) (turned_right (mid_of at (most_nodes - at) (tab most_nodes f)))) at id ≡ insert_at (tab most_nodes f) at id
+    → set (copy_within (tab most_nodes f) at 7 (at + 1)) at id ≡ insert_at (tab most_nodes f) at id
 unfolding insert_at pick
 inserted_eight f zero id h = refl
 inserted_eight f (suc zero) id h = refl
@@ -45,7 +38,7 @@ inserted_eight f (suc (suc (suc (suc (suc (suc (suc zero))))))) id h = refl
 inserted_eight f (suc (suc (suc (suc (suc (suc (suc (suc n)))))))) id h = absurd (omega arith)
 
 removed_eight : (f : ℕ → ℕ) (at : ℕ) → at < most_nodes
-    → set (put_mid at (most_nodes - at) (tab most_nodes f) (turned_left (mid_of at (most_nodes - at) (tab most_nodes f)))) 7 0 ≡ remove_at (tab most_nodes f) at
+    → set (copy_within (tab most_nodes f) (at + 1) most_nodes at) 7 0 ≡ remove_at (tab most_nodes f) at
 unfolding remove_at pick
 removed_eight f zero h = refl
 removed_eight f (suc zero) h = refl
@@ -61,17 +54,15 @@ module _ (l : List ℕ) (at : ℕ) (eight : length l ≡ most_nodes) where
   the_places : tab most_nodes (λ i. get_or l i 0) ≡ l
   the_places = by_place most_nodes l (λ i. get_or l i 0) eight (λ i h. refl)
 
-  pub inserted : (id : ℕ) {ys : List ℕ} → at < most_nodes → ys ≡ turned_right (mid_of at (most_nodes - at) l) → set (put_mid at (most_nodes - at) l ys) at id ≡ insert_at l at id
+  pub inserted : (id : ℕ) {ys : List ℕ} → at < most_nodes → ys ≡ copy_within l at 7 (at + 1) → set ys at id ≡ insert_at l at id
   inserted id h e =
-      ap (λ (y : List ℕ). set (put_mid at (most_nodes - at) l y) at id) e
-      ∙ subst (λ (l : List ℕ). set (put_mid at (most_nodes - at) l (turned_right (mid_of at (most_nodes - at) l))) at id ≡ insert_at l at id) the_places
-      (inserted_eight (λ i. get_or l i 0) at id h)
+      ap (λ (y : List ℕ). set y at id) e
+      ∙ subst (λ (l : List ℕ). set (copy_within l at 7 (at + 1)) at id ≡ insert_at l at id) the_places (inserted_eight (λ i. get_or l i 0) at id h)
 
-  pub removed : {ys : List ℕ} → at < most_nodes → ys ≡ turned_left (mid_of at (most_nodes - at) l) → set (put_mid at (most_nodes - at) l ys) 7 0 ≡ remove_at l at
+  pub removed : {ys : List ℕ} → at < most_nodes → ys ≡ copy_within l (at + 1) most_nodes at → set ys 7 0 ≡ remove_at l at
   removed h e =
-      ap (λ (y : List ℕ). set (put_mid at (most_nodes - at) l y) 7 0) e
-      ∙ subst (λ (l : List ℕ). set (put_mid at (most_nodes - at) l (turned_left (mid_of at (most_nodes - at) l))) 7 0 ≡ remove_at l at) the_places
-      (removed_eight (λ i. get_or l i 0) at h)
+      ap (λ (y : List ℕ). set y 7 0) e
+      ∙ subst (λ (l : List ℕ). set (copy_within l (at + 1) most_nodes at) 7 0 ≡ remove_at l at) the_places (removed_eight (λ i. get_or l i 0) at h)
 
 -- no place is as far as 8
 pub insert_past : (l : List ℕ) (at id : ℕ) → most_nodes ≤ at → l ≡ insert_at l at id

@@ -119,6 +119,7 @@ fn joining(c: Chain, j: Joining) -> bool
         && (j.fenced || j.next == 0)
 }
 
+// What is asked of a change, which is more after a node than before one.
 fn change(c: Chain) -> bool
     ensures { result ≡ change_ok c c.change }
 {
@@ -144,12 +145,12 @@ pub fn good(c: Chain) -> bool
 
 // ---- one id inserted or removed
 
-// The id at a place, the later ones one place on; nothing changes from place 8 on.
+// The id at a place, the later ones one place on; nothing changes from place 8 on. No turn: `rotate_right` takes 4 KB of the stack.
 pub fn insert(mut places: [u16; 8], at: usize, id: u16) -> [u16; 8]
     ensures { result ≡ insert_at places at id }
 {
     if at < MOST_NODES {
-        places[at..].rotate_right(1);
+        places.copy_within(at..MOST_NODES - 1, at + 1);
         places[at] = id;
     }
     places
@@ -160,7 +161,7 @@ pub fn remove(mut places: [u16; 8], at: usize) -> [u16; 8]
     ensures { result ≡ remove_at places at }
 {
     if at < MOST_NODES {
-        places[at..].rotate_left(1);
+        places.copy_within(at + 1..MOST_NODES, at);
         places[MOST_NODES - 1] = 0;
     }
     places

@@ -14,7 +14,7 @@ use steps::{Chain, Change, Joining};
 use store::State;
 use wire::{Refusal, Version};
 
-// The change with the node that joins, on either side, as f makes it.
+// The change with the node that joins, on either side, as f makes it. What is written through a reference into the change is not tied to it.
 fn map_joining<F: FnOnce(Joining) -> Joining>(ch: Change, f: F) -> Change
     requires { ForSome (joined ch) (F.pre f) }
     ensures { Mapped (F.post f) ch result }

@@ -21,7 +21,7 @@ enum Reply {
 }
 
 impl Reply {
-    // What is taken goes on as a query.
+    // The byte that is sent; what is taken goes on as a query.
     fn answer(self) -> u8
         ensures { result ≡ answer_of self }
     {
@@ -190,7 +190,7 @@ impl<'a> Query<'a> {
     }
 }
 
-// The state that a write or a delete leaves.
+// The state that a write or a delete leaves, as the byte that is stored.
 #[tactic(auto, unfolding(wire::specs::Numbers::pick))]
 fn written(op: u8) -> u8
     ensures { result ≡ pick (eqb op op_write) valued deleted }

@@ -24,7 +24,7 @@ const CLIENT_CODE: u32 = 65536;
 
 const NO_SLOT: u32 = 65536;
 
-// A record that breaks the rules.
+// A record that breaks the rules; of a derived default less would be known.
 const NO_RECORD: Chain = Chain {
     length: 0,
     places: [0; 8],

@@ -167,7 +167,7 @@ fn packet_ok(h: Head, key: &[u8], value: &[u8]) -> bool
     head_ok(h) & ((key.len() == KEY_SIZE) & (value.len() == usize::from(h.length)))
 }
 
-// Op to value, one behind the other.
+// Op to value, one behind the other. A head is made, key and value are parts of other slices: nothing has all three.
 fn put_packet(out: &mut [u8], h: Head, key: &[u8], value: &[u8])
     requires { (outlet_size ≤ length out.old) × (length key.now ≡ key_size) × (length value.now ≤ value_size) }
     ensures { out.new ≡ sent_in out.old (packet h key.now value.now) }

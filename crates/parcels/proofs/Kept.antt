@@ -1,18 +1,19 @@
 -- Document 01, "Bench": parcels are numbered from 1 and never vanish. One that is kept gets the next number, and all others stay.
 use Prim.Native.Nat.{ℕ, zero, suc, ◌+◌, ◌-◌, ◌≤◌, ◌<◌}
 use mathlib.Core.Path.{◌≡◌, refl, ap, ap₂, sym, ◌∙◌}
-use mathlib.Core.List.{List, [], ◌∷◌}
+use mathlib.Core.List.{List, [], ◌∷◌, map}
 use mathlib.Core.Logic.{◌⊎◌, inl, inr}
 use native.Mathlib.Omega.{arith}
 use lib.ListN.{length, set}
 use borrow.Author.Tests.{eq-eqb, ne_eqb}
-use Rattle.std.specs.Prelude.{Some, slice_get}
+use Rattle.std.specs.Prelude.{Some, Ok, Err, slice_get}
 use Rattle.wire.proofs.Numbers.{pick_true, pick_false, reflects_cases, reflect_eqb}
 use Rattle.lines.specs.declared.output.Place.{Place}
+use Rattle.parcels.specs.declared.Fault.TheVariants.{Refused, Halted, Unclear}
 use Rattle.parcels.specs.declared.Parcel.{Parcel}
 use Rattle.parcels.specs.declared.Parcels.{Parcels}
 use Rattle.parcels.specs.Sizes.{most_parcels}
-use Rattle.parcels.specs.Parcels.{count_of, part_in, part_of, place_in, to_of, packet_in, bytes_in, packet_at, parcel, placed, kept}
+use Rattle.parcels.specs.Parcels.{number_of, keep_outcome, count_of, part_in, part_of, place_in, to_of, packet_in, bytes_in, packet_at, parcel, placed, kept}
 use Rattle.parcels.proofs.Laws.{bounded_fits, count_fits, part_there}
 
 -- an element that was put, and those before it
@@ -26,6 +27,18 @@ got_before [] i j x h = refl
 got_before (y ∷ l) zero j x h = absurd (omega arith)
 got_before (y ∷ l) (suc i) zero x h = refl
 got_before (y ∷ l) (suc i) (suc j) x h = got_before l i j x (omega arith)
+
+-- one that finds no room is unclear, and any other is kept; 23 for what is halted, 24 for what is unclear
+pub keep_full : (ps : Parcels) → count_of ps ≡ most_parcels → keep_outcome ps ≡ Err Unclear
+unfolding keep_outcome
+keep_full ps e = pick_true _ _ _ (eq-eqb (count_of ps) most_parcels e)
+
+pub keep_room : (ps : Parcels) → count_of ps < most_parcels → keep_outcome ps ≡ Ok tt
+unfolding keep_outcome
+keep_room ps h = pick_false _ _ _ (ne_eqb (count_of ps) most_parcels (λ e. omega arith))
+
+pub fault_numbers : map number_of (Refused 7 ∷ Halted ∷ Unclear ∷ []) ≡ 7 ∷ 23 ∷ 24 ∷ []
+fault_numbers = refl
 
 -- the parcels, and where another goes with its packet
 module _ (a : Parcels) (to : Place) (o : List ℕ) (whole : length a.parcels ≡ most_parcels) where

@@ -140,7 +140,7 @@ impl Parcels {
         Ok(())
     }
 
-    // The query of a line that sends.
+    // The query of a line that sends, of any op that a byte can say.
     pub fn send(&mut self, op: u8, line: &[u8]) -> Result<(), Fault>
         ensures { SendGives self.old op line.now result self.new }
     {

@@ -44,6 +44,7 @@ pub fn register_open(rec: &mut [u32], kind: u8, named: u16, fresh: u16) -> u8
     u8::from(Refusal::Broken)
 }
 
+// Fence and copy leave a table too, which the call says and no closure would.
 pub fn register_fence(rec: &mut [u32], table: &mut [u8]) -> u8
     ensures { FenceLeaves rec.old table.old result rec.new table.new }
 {

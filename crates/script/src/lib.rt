@@ -114,7 +114,7 @@ fn text(w: &[u8]) -> &[u8]
     &[]
 }
 
-// The key of a line, where its third word can be one.
+// The key of a line, where its third word can be one; else the empty part, as in `key_of`.
 pub fn key(line: &[u8]) -> &[u8]
     ensures value { result.now ≡ key_of line.now }
     ensures bound { length result.now ≤ most_text }

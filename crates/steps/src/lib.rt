@@ -6,7 +6,8 @@ ghost use Rattle.steps.specs.Chain.{joined, is_open};
 
 use wire::{Refusal, Session, Stamp};
 
-// A node that joins at a named one: its id, whether the named node is fenced, and the next slot to copy.
+// A node that joins at a named one: its id, whether the named node is fenced, and the next slot to copy, which an unfenced one may not have earned
+// (`joining_ok`).
 #[derive(Clone, Copy, Default)]
 pub struct Joining {
     pub named: u16,

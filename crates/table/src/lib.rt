@@ -66,7 +66,7 @@ pub fn count(t: &[u8]) -> u16
     in_head(t, COUNT_AT, 0)
 }
 
-// ---- the parts of a slot
+// ---- the parts of a slot, of any bytes: a state may be any byte, and is judged by the rules
 
 // The whole slots that a slice has, a table or not.
 #[tactic(auto, using(crate::proofs::Laws::chunks_rows, crate::proofs::Laws::no_rows, crate::proofs::Laws::length_rows))]

@@ -1,5 +1,5 @@
--- Each public call asks nothing of its caller, and no second outcome fits its contract: two that do, for the same arguments, are equal. And what the derived
--- comparisons of the kinds of numbers give.
+-- No second outcome fits the contract of a public call: two that do, for the same arguments, are equal. And those that are over no type ask nothing of their
+-- caller. And what the derived comparisons of the kinds of numbers give.
 use Prim.Native.Nat.{ℕ}
 use mathlib.Core.Path.{◌≡◌, refl, sym, ◌∙◌}
 use denote.RattleType.{RattleType}

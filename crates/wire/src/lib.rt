@@ -79,7 +79,7 @@ pub fn number<T: Copy>(answer: Result<T, Refusal>) -> u8
     }
 }
 
-// A step's rows in their order, each with whether it applies: the first that does refuses.
+// A step's rows in their order, each with whether it applies, as document 01's table has them: the first that does refuses.
 pub fn first_of<const N: usize>(rows: [(bool, Refusal); N]) -> Result<(), Refusal>
     ensures { code result ≡ first_number (tests_of rows.entry) }
 {
@@ -207,7 +207,7 @@ impl Version {
         }
     }
 
-    // 0.0
+    // 0.0, by its two numbers as in the definition.
     pub fn is_zero(self) -> bool
         ensures { result ≡ is_zero self }
     {

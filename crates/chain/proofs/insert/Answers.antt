@@ -8,7 +8,7 @@ pub returns-then-at-lt-MOST_NODES : goal.returns-then-at-lt-MOST_NODES
 returns-then-at-lt-MOST_NODES c =
     let s = c.args in
     let eight : length s.places ≡ most_nodes = search rules in
-    inserted s.places s.at eight s.id c.if-at-lt-MOST_NODES.true c.rotate_right.ensures.after
+    inserted s.places s.at eight s.id c.if-at-lt-MOST_NODES.true c.copy_within.ensures.after
 
 pub returns-else-at-lt-MOST_NODES : goal.returns-else-at-lt-MOST_NODES
 returns-else-at-lt-MOST_NODES c = insert_past c.args.places c.args.at c.args.id c.if-at-lt-MOST_NODES.false
