@@ -68,7 +68,7 @@ impl World {
         answered(register::register_remove(&mut self.record, id))
     }
 
-    pub fn change(&mut self, order: Order) -> Result<(), Fault> {
+    pub(crate) fn change(&mut self, order: Order) -> Result<(), Fault> {
         match order {
             Order::Open(side, named, fresh) => self.open(
                 side,

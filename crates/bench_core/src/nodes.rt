@@ -39,7 +39,7 @@ fn place(id: u16) -> usize
 
 impl Nodes {
     // The first nodes with blank tables.
-    pub fn new() -> Nodes {
+    pub(crate) fn new() -> Nodes {
         let unknown = Node {
             table: [0; TABLE_SIZE],
             halted: false,
@@ -53,25 +53,25 @@ impl Nodes {
         nodes
     }
 
-    pub fn table(&mut self, id: u16) -> &mut Table {
+    pub(crate) fn table(&mut self, id: u16) -> &mut Table {
         &mut self.nodes[place(id)].table
     }
 
-    pub fn blank(&mut self, id: u16) {
+    pub(crate) fn blank(&mut self, id: u16) {
         register::register_blank(self.table(id), id, SLOTS);
     }
 
     // A node is known once its table was made: before, its id stands nowhere.
-    pub fn is_known(&self, id: u16) -> bool {
+    pub(crate) fn is_known(&self, id: u16) -> bool {
         table::id(&self.nodes[place(id)].table) == id
     }
 
     // Whether a known node is halted.
-    pub fn is_halted(&self, id: u16) -> bool {
+    pub(crate) fn is_halted(&self, id: u16) -> bool {
         self.is_known(id) && self.nodes[place(id)].halted
     }
 
-    pub fn halt(&mut self, id: u16) -> Result<(), Fault> {
+    pub(crate) fn halt(&mut self, id: u16) -> Result<(), Fault> {
         if !self.is_known(id) {
             return Err(Fault::Unclear);
         }

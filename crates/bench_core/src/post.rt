@@ -39,7 +39,7 @@ impl World {
         self.parcels.keep(Place::Relay, outlet)
     }
 
-    pub fn deliver(&mut self, p: usize) -> Result<(), Fault> {
+    pub(crate) fn deliver(&mut self, p: usize) -> Result<(), Fault> {
         match self.parcels.destination(p) {
             Place::Client => Err(Fault::Unclear),
             Place::Relay => self.relay(p),

@@ -167,7 +167,8 @@ fn packet_ok(h: Head, key: &[u8], value: &[u8]) -> bool
     head_ok(h) & ((key.len() == KEY_SIZE) & (value.len() == usize::from(h.length)))
 }
 
-// Op to value, one behind the other. A head is made, key and value are parts of other slices: nothing has all three.
+// Op to value, one behind the other; an outlet may be larger, and what is behind stays. A head is made, key and value are parts of other slices: nothing
+// has all three.
 fn put_packet(out: &mut [u8], h: Head, key: &[u8], value: &[u8])
     requires { (outlet_size ≤ length out.old) × (length key.now ≡ key_size) × (length value.now ≤ value_size) }
     ensures { out.new ≡ sent_in out.old (packet h key.now value.now) }
