@@ -1,4 +1,4 @@
-// The nodes: of each that there can be its table, and whether it is halted.
+// The nodes: of each that there can be its table, and whether it is halted. An unknown node has a table too, of zeros, since calls are lent one in any case.
 ghost use Rattle.std.specs.Prelude.{◌<◌};
 ghost use Rattle.bench_core.specs.Sizes.{most_nodes};
 

@@ -51,7 +51,7 @@ const NO_HEAD: Head = Head {
     length: 0,
 };
 
-// The numbers of a record, and those of a packet's fields.
+// The numbers of a record, and those of a packet's fields, by their places as include/register.h has them.
 type Record = [u32; RECORD_SIZE];
 
 type Fields = [u32; FIELDS_SIZE];

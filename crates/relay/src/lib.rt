@@ -24,7 +24,7 @@ struct Passage<'a> {
 impl<'a> Passage<'a> {
     ghost use Rattle.relay.specs.Passages.{passing};
 
-    // ---- where the packet goes
+    // ---- where the packet goes, as this head says; a node asks its own query
 
     fn is_read(&self) -> bool
         ensures { result ≡ is_read (passing self.now) }
