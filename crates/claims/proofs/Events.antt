@@ -13,7 +13,7 @@ use Rattle.wire.proofs.Numbers.{pick_true, pick_false, pick_case, past, ok_inj, 
 use Rattle.store.specs.Table.{most_slots, blank_bytes, blank_call, blank_rows, BlankGives}
 use Rattle.store.proofs.Blank.{blank_judged, length_blank}
 use Rattle.steps.specs.declared.Chain.{Chain}
-use Rattle.steps.specs.Chain.{start_call}
+use Rattle.steps.specs.Chain.{start_chain, start_call}
 use Rattle.steps.specs.Node.{NodeGives}
 use Rattle.steps.specs.Relay.{Outcome, outcome_of, outcome_number, packet_sent, relay_call, RelayGives}
 use Rattle.steps.specs.Control.{ChainGives, FenceGives, CopyGives, EnterGives, open_step, open_call, open_rows, activate_call, cancel_call, remove_call}
@@ -115,6 +115,11 @@ enter_event {r} {t} {id} {key} {n} {t'} g = record {
 
 pub start_event : {length : ℕ} {places : List ℕ} {count : ℕ} {o : Out Chain} → o ≡ start_call length places count → StartEvent length places count o
 start_event e = record { start = λ r q. sym e ∙ q }
+
+-- the record that a start gives is that of its numbers
+pub start_given : {length : ℕ} {places : List ℕ} {count : ℕ} {r : Chain} → StartEvent length places count (ok r) → r ≡ start_chain length places count
+unfolding start_call
+start_given {r = r} g = sym (ok_inj (past _ _ _ _ (g.start r refl)).1)
 
 pub blank_event : {t : List ℕ} {id count n : ℕ} {t' : List ℕ} → BlankGives t id count n t' → BlankEvent id count n t'
 unfolding blank_call

@@ -6,6 +6,11 @@ use wire::Version;
 // Room for an output line.
 const ROW_SIZE: usize = 256;
 
+// The longest one: line, number, parcel, place, version and value, each with what stands behind it.
+const LONGEST: usize = 21 + 4 + 21 + 6 + 17 + 129;
+
+const _: () = prove!(LONGEST <= ROW_SIZE);
+
 // Where a parcel goes: to the relay, to a client, or to the node of an id.
 #[derive(Clone, Copy)]
 pub enum Place {

@@ -1,15 +1,15 @@
 -- Each public call asks nothing of its caller, and no second outcome fits its contract: two that do, for the same arguments, are equal.
 use Prim.Native.Nat.{ℕ}
-use mathlib.Core.Path.{◌≡◌, sym, ◌∙◌}
+use mathlib.Core.Path.{◌≡◌, sym, ap, ◌∙◌}
 use mathlib.Core.List.{List}
 use Rattle.be.specs.Promise.{Exact}
 use Rattle.be.proofs.Promise.{equation, exact, pair}
-use Rattle.wire.specs.Packet.{Packet, read_call, key_part, value_part, key_of as the_key, value_of as the_value, WriteGives}
+use Rattle.wire.specs.Packet.{Packet, read_call, write_call, key_part, value_part, key_of as the_key, value_of as the_value, WriteGives}
 use Rattle.std.specs.Prelude.{Result}
-use Rattle.wire.specs.Numbers.{said}
+use Rattle.wire.specs.Numbers.{number_of, said, code}
 use Rattle.wire.specs.declared.Head.{Head}
 use Rattle.wire.specs.declared.Refusal.{Refusal}
-use Rattle.wire.proofs.Answers.{said_once}
+use Rattle.wire.proofs.Answers.{code_said, done_number, said_once}
 use Rattle.packet.specs.Emit.{emitted}
 use Rattle.packet.proofs.read.Reads as read
 use Rattle.packet.proofs.key_of.Reads as key_of
@@ -62,3 +62,11 @@ emit_once out a b p e f = e ∙ sym f
 
 pub write_once : (out a b : List ℕ) (p : Packet) (w x : Result (Unit {0}) Refusal) → WriteGives out p (said w) a → WriteGives out p (said x) b → (w ≡ x) × (a ≡ b)
 write_once out a b p w x g h = (said_once w x (g.answer ∙ sym h.answer), g.outlet ∙ sym h.outlet)
+
+-- ---- document 01's number of each answer is the number of the call
+
+pub reading_number_lem : (p : List ℕ) (r : Result Head Refusal) → said r ≡ read_call p → code r ≡ number_of (read_call p)
+reading_number_lem p r e = code_said r ∙ ap number_of e
+
+pub writing_number_lem : {out a : List ℕ} {p : Packet} (w : Result (Unit {0}) Refusal) → WriteGives out p (said w) a → code w ≡ number_of (write_call out p)
+writing_number_lem {out} {a} {p} w g = code_said w ∙ ap number_of g.answer ∙ done_number (write_call out p)
