@@ -145,6 +145,7 @@ fn chain_at(l: &Record) -> Chain
 }
 
 // The record that numbers stand for; where they stand for none, one that breaks the rules, so that every step refuses it with 1.
+#[inline(always)]
 pub fn record_of(l: &[u32]) -> Chain
     ensures { result ≡ record_or l.now }
 {
