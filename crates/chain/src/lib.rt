@@ -4,7 +4,7 @@
 
 ghost use Rattle.std.specs.Prelude.{◌≡◌, drop};
 ghost use Rattle.store.specs.Table.{all_zero};
-ghost use Rattle.wire.specs.Numbers.{said};
+ghost use Rattle.wire.specs.Numbers.{number_of, code};
 ghost use Rattle.steps.specs.Chain.{members, memb, first_of, last_of, next_of, place_of, insert_at, remove_at, largest, joining_ok, change_ok, chain_ok, start_chain, start_call};
 ghost use Rattle.chain.specs.Ids.{ids_ok};
 
@@ -187,11 +187,16 @@ pub fn starting(length: u8, places: [u16; 8], count: u16) -> Chain
     c
 }
 
-// A starting record, if it keeps the rules.
+// A starting record, and whether it keeps the rules; one that is refused is given too.
 #[tactic(auto, unfolding(steps::specs::Chain::start_call, wire::specs::Numbers::guard))]
-pub fn start(length: u8, places: [u16; 8], count: u16) -> Result<Chain, Refusal>
-    ensures { said result ≡ start_call length places count }
+pub fn start(length: u8, places: [u16; 8], count: u16) -> (Chain, Result<(), Refusal>)
+    ensures number { code result.1 ≡ number_of (start_call length places count) }
+    ensures chain { result.0 ≡ start_chain length places count }
 {
     let c = starting(length, places, count);
-    if good(c) { Ok(c) } else { Err(Refusal::Broken) }
+    if good(c) {
+        (c, Ok(()))
+    } else {
+        (c, Err(Refusal::Broken))
+    }
 }
