@@ -4,7 +4,7 @@
 
 ghost use Rattle.std.specs.Prelude.{◌≡◌, drop, ltb, eqb};
 ghost use Rattle.store.specs.Table.{all_zero};
-ghost use Rattle.wire.specs.Numbers.{said, pick};
+ghost use Rattle.wire.specs.Numbers.{number_of, code, pick};
 ghost use Rattle.steps.specs.Chain.{members, memb, first_of, last_of, next_of, place_of, insert_at, remove_at, largest, joining_ok, change_ok, chain_ok, start_chain, start_call};
 ghost use Rattle.chain.specs.Ids.{ids_ok};
 
@@ -50,10 +50,12 @@ pub fn place(c: Chain, id: u16) -> usize
     seek(used(&c), id)
 }
 
+#[tactic(auto, using(crate::proofs::Ids::memb_place))]
 pub fn member(c: Chain, id: u16) -> bool
     ensures { result ≡ memb id (members c) }
 {
-    has(used(&c), id)
+    let ids = used(&c);
+    seek(ids, id) < ids.len()
 }
 
 #[tactic(auto, using(crate::proofs::Ids::first_got))]
@@ -64,10 +66,16 @@ pub fn first(c: Chain) -> u16
 }
 
 #[tactic(auto, using(crate::proofs::Ids::last_got))]
+fn last_in(ids: &[u16]) -> u16
+    ensures { result ≡ last_of ids.now }
+{
+    ids.last().copied().unwrap_or(0)
+}
+
 pub fn last(c: Chain) -> u16
     ensures { result ≡ last_of (members c) }
 {
-    used(&c).last().copied().unwrap_or(0)
+    last_in(used(&c))
 }
 
 #[tactic(auto, using(crate::proofs::Ids::next_at))]
@@ -108,11 +116,11 @@ fn most(ids: &[u16]) -> u16
 }
 
 #[tactic(auto, unfolding(steps::specs::Chain::joining_ok))]
-fn joining(c: Chain, j: Joining) -> bool
-    ensures { result ≡ joining_ok c j }
+fn joining(c: &Chain, j: Joining) -> bool
+    ensures { result ≡ joining_ok c.now j }
 {
-    member(c, j.named)
-        && !member(c, j.fresh)
+    has(used(c), j.named)
+        && !has(used(c), j.fresh)
         && j.fresh == c.highest
         && usize::from(c.length) < MOST_NODES
         && j.next <= c.count
@@ -120,13 +128,13 @@ fn joining(c: Chain, j: Joining) -> bool
 }
 
 // What is asked of a change, which is more after a node than before one.
-fn change(c: Chain) -> bool
-    ensures { result ≡ change_ok c c.change }
+fn change(c: &Chain) -> bool
+    ensures { result ≡ change_ok c.now c.now.change }
 {
     match c.change {
         Change::Still => true,
         Change::Before(j) => joining(c, j),
-        Change::After(j) => joining(c, j) && j.named == last(c),
+        Change::After(j) => joining(c, j) && j.named == last_in(used(c)),
     }
 }
 
@@ -140,7 +148,7 @@ pub fn good(c: Chain) -> bool
         && zeros(unused(&c))
         && c.session != Session(0)
         && (0 < c.count && usize::from(c.count) <= MOST_SLOTS)
-        && change(c)
+        && change(&c)
 }
 
 // ---- one id inserted or removed
@@ -222,11 +230,16 @@ pub fn starting(length: u8, places: [u16; 8], count: u16) -> Chain
     c
 }
 
-// A starting record, if it keeps the rules.
+// A starting record, and whether it keeps the rules; one that is refused is given too.
 #[tactic(auto, unfolding(steps::specs::Chain::start_call, wire::specs::Numbers::guard))]
-pub fn start(length: u8, places: [u16; 8], count: u16) -> Result<Chain, Refusal>
-    ensures { said result ≡ start_call length places count }
+pub fn start(length: u8, places: [u16; 8], count: u16) -> (Chain, Result<(), Refusal>)
+    ensures number { code result.1 ≡ number_of (start_call length places count) }
+    ensures chain { result.0 ≡ start_chain length places count }
 {
     let c = starting(length, places, count);
-    if good(c) { Ok(c) } else { Err(Refusal::Broken) }
+    if good(c) {
+        (c, Ok(()))
+    } else {
+        (c, Err(Refusal::Broken))
+    }
 }
