@@ -29,12 +29,12 @@ memb_place j l = go (memb j l) refl
     go true e = sym (lt-ltb _ _ (mem_place j l (memb_true j l e)))
     go false e = let n : place_of j l < length l → ⊥ = λ h. memb_false j l e (place_mem j l h) in sym (le-ltb (place_of j l) (length l) (omega arith))
 
-first_at : (l : List ℕ) → first_of l ≡ get_or l 0 0
+pub first_at : (l : List ℕ) → first_of l ≡ get_or l 0 0
 unfolding first_of
 first_at [] = refl
 first_at (x ∷ l) = refl
 
-last_at : (l : List ℕ) → last_of l ≡ get_or l (length l - 1) 0
+pub last_at : (l : List ℕ) → last_of l ≡ get_or l (length l - 1) 0
 unfolding last_of
 last_at [] = refl
 last_at (x ∷ []) = refl
