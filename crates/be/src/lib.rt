@@ -76,7 +76,7 @@ impl Number for u16 {
     }
 
     fn give_bytes(self, part: &mut [u8]) {
-        part.copy_from_slice(&self.to_be_bytes());
+        part.copy_from_slice(&u16::to_be_bytes(self));
     }
 }
 
@@ -98,7 +98,7 @@ impl Number for u32 {
     }
 
     fn give_bytes(self, part: &mut [u8]) {
-        part.copy_from_slice(&self.to_be_bytes());
+        part.copy_from_slice(&u32::to_be_bytes(self));
     }
 }
 
@@ -122,7 +122,7 @@ impl Number for u64 {
     }
 
     fn give_bytes(self, part: &mut [u8]) {
-        part.copy_from_slice(&self.to_be_bytes());
+        part.copy_from_slice(&u64::to_be_bytes(self));
     }
 }
 

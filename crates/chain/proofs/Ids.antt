@@ -16,18 +16,25 @@ use Rattle.std.proofs.lemmas.List.Recursion.{is_position_or_len}
 use Rattle.wire.specs.Numbers.{pick}
 use Rattle.wire.proofs.Numbers.{pick_true, pick_false}
 use Rattle.store.specs.Table.{all_zero}
-use Rattle.steps.proofs.ChainIds.{place_le}
+use Rattle.steps.proofs.ChainIds.{place_le, memb_true, memb_false, mem_place, place_mem}
 use Rattle.chain.specs.Ids.{ids_ok}
 use Rattle.steps.specs.Chain.{memb, first_of, last_of, next_of, place_of, apart, none_above, largest}
 
 -- ---- which id stands where
 
-first_at : (l : List ℕ) → first_of l ≡ get_or l 0 0
+pub memb_place : (j : ℕ) (l : List ℕ) → memb j l ≡ ltb (place_of j l) (length l)
+memb_place j l = go (memb j l) refl
+  where
+    go : (b : Bool) → memb j l ≡ b → b ≡ ltb (place_of j l) (length l)
+    go true e = sym (lt-ltb _ _ (mem_place j l (memb_true j l e)))
+    go false e = let n : place_of j l < length l → ⊥ = λ h. memb_false j l e (place_mem j l h) in sym (le-ltb (place_of j l) (length l) (omega arith))
+
+pub first_at : (l : List ℕ) → first_of l ≡ get_or l 0 0
 unfolding first_of
 first_at [] = refl
 first_at (x ∷ l) = refl
 
-last_at : (l : List ℕ) → last_of l ≡ get_or l (length l - 1) 0
+pub last_at : (l : List ℕ) → last_of l ≡ get_or l (length l - 1) 0
 unfolding last_of
 last_at [] = refl
 last_at (x ∷ []) = refl

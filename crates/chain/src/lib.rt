@@ -2,9 +2,9 @@
 
 #![tactic(auto)]
 
-ghost use Rattle.std.specs.Prelude.{◌≡◌, drop};
+ghost use Rattle.std.specs.Prelude.{◌≡◌, drop, ltb, eqb};
 ghost use Rattle.store.specs.Table.{all_zero};
-ghost use Rattle.wire.specs.Numbers.{said};
+ghost use Rattle.wire.specs.Numbers.{number_of, code, pick};
 ghost use Rattle.steps.specs.Chain.{members, memb, first_of, last_of, next_of, place_of, insert_at, remove_at, largest, joining_ok, change_ok, chain_ok, start_chain, start_call};
 ghost use Rattle.chain.specs.Ids.{ids_ok};
 
@@ -50,10 +50,12 @@ pub fn place(c: Chain, id: u16) -> usize
     seek(used(&c), id)
 }
 
+#[tactic(auto, using(crate::proofs::Ids::memb_place))]
 pub fn member(c: Chain, id: u16) -> bool
     ensures { result ≡ memb id (members c) }
 {
-    has(used(&c), id)
+    let ids = used(&c);
+    seek(ids, id) < ids.len()
 }
 
 #[tactic(auto, using(crate::proofs::Ids::first_got))]
@@ -64,10 +66,16 @@ pub fn first(c: Chain) -> u16
 }
 
 #[tactic(auto, using(crate::proofs::Ids::last_got))]
+fn last_in(ids: &[u16]) -> u16
+    ensures { result ≡ last_of ids.now }
+{
+    ids.last().copied().unwrap_or(0)
+}
+
 pub fn last(c: Chain) -> u16
     ensures { result ≡ last_of (members c) }
 {
-    used(&c).last().copied().unwrap_or(0)
+    last_in(used(&c))
 }
 
 #[tactic(auto, using(crate::proofs::Ids::next_at))]
@@ -108,11 +116,11 @@ fn most(ids: &[u16]) -> u16
 }
 
 #[tactic(auto, unfolding(steps::specs::Chain::joining_ok))]
-fn joining(c: Chain, j: Joining) -> bool
-    ensures { result ≡ joining_ok c j }
+fn joining(c: &Chain, j: Joining) -> bool
+    ensures { result ≡ joining_ok c.now j }
 {
-    member(c, j.named)
-        && !member(c, j.fresh)
+    has(used(c), j.named)
+        && !has(used(c), j.fresh)
         && j.fresh == c.highest
         && usize::from(c.length) < MOST_NODES
         && j.next <= c.count
@@ -120,13 +128,13 @@ fn joining(c: Chain, j: Joining) -> bool
 }
 
 // What is asked of a change, which is more after a node than before one.
-fn change(c: Chain) -> bool
-    ensures { result ≡ change_ok c c.change }
+fn change(c: &Chain) -> bool
+    ensures { result ≡ change_ok c.now c.now.change }
 {
     match c.change {
         Change::Still => true,
         Change::Before(j) => joining(c, j),
-        Change::After(j) => joining(c, j) && j.named == last(c),
+        Change::After(j) => joining(c, j) && j.named == last_in(used(c)),
     }
 }
 
@@ -140,31 +148,66 @@ pub fn good(c: Chain) -> bool
         && zeros(unused(&c))
         && c.session != Session(0)
         && (0 < c.count && usize::from(c.count) <= MOST_SLOTS)
-        && change(c)
+        && change(&c)
 }
 
 // ---- one id inserted or removed
 
-// The id at a place, the later ones one place on; nothing changes from place 8 on. No turn: `rotate_right` takes 4 KB of the stack.
-pub fn insert(mut places: [u16; 8], at: usize, id: u16) -> [u16; 8]
-    ensures { result ≡ insert_at places at id }
+// What stands at place i once an id is inserted at a place: what stood there, the id, or what stood before.
+#[tactic(auto, unfolding(wire::specs::Numbers::pick))]
+fn shifted(at: usize, i: usize, id: u16, here: u16, before: u16) -> u16
+    ensures { result ≡ pick (ltb i at) here (pick (eqb i at) id before) }
 {
-    if at < MOST_NODES {
-        places.copy_within(at..MOST_NODES - 1, at + 1);
-        places[at] = id;
+    if i < at {
+        here
+    } else if i == at {
+        id
+    } else {
+        before
     }
-    places
 }
 
-// Without a place, the later ones one place back, and 0 last; nothing changes from place 8 on.
-pub fn remove(mut places: [u16; 8], at: usize) -> [u16; 8]
+// What stands at place i once a place is removed: what stood there, or what stood behind.
+#[tactic(auto, unfolding(wire::specs::Numbers::pick))]
+fn closed(at: usize, i: usize, here: u16, behind: u16) -> u16
+    ensures { result ≡ pick (ltb i at) here behind }
+{
+    if i < at { here } else { behind }
+}
+
+// The id at a place, the later ones one place on; nothing changes from place 8 on. Each place is chosen by itself, so that all eight are stored at once:
+// `copy_within` stores them two bytes at a time, for which the next to read them waits, and `rotate_right` takes 4 KB of the stack.
+pub fn insert(places: [u16; 8], at: usize, id: u16) -> [u16; 8]
+    ensures { result ≡ insert_at places at id }
+{
+    let [a, b, c, d, e, f, g, h] = places;
+    [
+        shifted(at, 0, id, a, a),
+        shifted(at, 1, id, b, a),
+        shifted(at, 2, id, c, b),
+        shifted(at, 3, id, d, c),
+        shifted(at, 4, id, e, d),
+        shifted(at, 5, id, f, e),
+        shifted(at, 6, id, g, f),
+        shifted(at, 7, id, h, g),
+    ]
+}
+
+// Without a place, the later ones one place back, and 0 last; nothing changes from place 8 on. Each by itself, as above.
+pub fn remove(places: [u16; 8], at: usize) -> [u16; 8]
     ensures { result ≡ remove_at places at }
 {
-    if at < MOST_NODES {
-        places.copy_within(at + 1..MOST_NODES, at);
-        places[MOST_NODES - 1] = 0;
-    }
-    places
+    let [a, b, c, d, e, f, g, h] = places;
+    [
+        closed(at, 0, a, b),
+        closed(at, 1, b, c),
+        closed(at, 2, c, d),
+        closed(at, 3, d, e),
+        closed(at, 4, e, f),
+        closed(at, 5, f, g),
+        closed(at, 6, g, h),
+        closed(at, 7, h, 0),
+    ]
 }
 
 // ---- at the start
@@ -187,11 +230,16 @@ pub fn starting(length: u8, places: [u16; 8], count: u16) -> Chain
     c
 }
 
-// A starting record, if it keeps the rules.
+// A starting record, and whether it keeps the rules; one that is refused is given too.
 #[tactic(auto, unfolding(steps::specs::Chain::start_call, wire::specs::Numbers::guard))]
-pub fn start(length: u8, places: [u16; 8], count: u16) -> Result<Chain, Refusal>
-    ensures { said result ≡ start_call length places count }
+pub fn start(length: u8, places: [u16; 8], count: u16) -> (Chain, Result<(), Refusal>)
+    ensures number { code result.1 ≡ number_of (start_call length places count) }
+    ensures chain { result.0 ≡ start_chain length places count }
 {
     let c = starting(length, places, count);
-    if good(c) { Ok(c) } else { Err(Refusal::Broken) }
+    if good(c) {
+        (c, Ok(()))
+    } else {
+        (c, Err(Refusal::Broken))
+    }
 }

@@ -12,7 +12,9 @@ use wire::Refusal;
 fn starting(length: u8, places: [u16; 8], count: u16) -> Result<Chain, Refusal>
     ensures { StartEvent length places count (said result) }
 {
-    chain::start(length, places, count)
+    let (c, done) = chain::start(length, places, count);
+    done?;
+    Ok(c)
 }
 
 fn blanking(table: &mut [u8], id: u16, count: u16) -> Result<(), Refusal>

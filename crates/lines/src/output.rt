@@ -1,15 +1,15 @@
 // The output line of a line: its number, the result, and the parcel made.
-use std::fmt;
-use std::io::{Cursor, Result, Write};
+ghost use Rattle.std.specs.Prelude.{◌≡◌, ◌+◌, ◌*◌, ◌≤◌, ◌<◌, length};
+ghost use Rattle.wire.specs.Packet.{value_size};
+ghost use Rattle.lines.specs.Sizes.{most_digits, row_size};
+
 use wire::Version;
+
+// The most digits of a number.
+const MOST_DIGITS: usize = 20;
 
 // Room for an output line.
 const ROW_SIZE: usize = 256;
-
-// The longest one: line, number, parcel, place, version and value, each with what stands behind it.
-const LONGEST: usize = 21 + 4 + 21 + 6 + 17 + 129;
-
-const _: () = prove!(LONGEST <= ROW_SIZE);
 
 // Where a parcel goes: to the relay, to a client, or to the node of an id.
 #[derive(Clone, Copy)]
@@ -17,16 +17,6 @@ pub enum Place {
     Relay,
     Client,
     Node(u16),
-}
-
-impl fmt::Display for Place {
-    fn fmt<W: fmt::Write>(&self, f: &mut fmt::Formatter<W>) -> fmt::Result {
-        match self {
-            Place::Relay => write!(f, "r"),
-            Place::Client => write!(f, "c"),
-            Place::Node(id) => write!(f, "{id}"),
-        }
-    }
 }
 
 // A parcel that a line made: its number, where it goes, and its packet.
@@ -37,44 +27,119 @@ pub struct Made<'a> {
     pub packet: &'a [u8],
 }
 
-// Destination, version and value of a packet.
-fn columns<W: Write>(out: &mut W, to: Place, version: Version, value: &[u8]) -> Result<()> {
-    let session = version.session.0;
-    let sequence = version.sequence.0;
-    write!(out, "{to} {session}.{sequence} ")?;
-    if value.is_empty() {
-        return out.write_all(b"-\n");
-    }
-    out.write_all(value)?;
-    out.write_all(b"\n")
+// The value of a packet; nothing of what is no packet.
+#[tactic(auto, using(crate::proofs::Laws::value_short))]
+fn shown(packet: &[u8]) -> &[u8]
+    ensures { length result.now ≤ value_size }
+{
+    packet::value(packet)
 }
 
-// The parcel of a line; what is no packet has no columns.
-fn parcel<W: Write>(out: &mut W, made: Made) -> Result<()> {
-    let number = made.parcel;
-    write!(out, "{number} ")?;
-    match packet::read(made.packet) {
-        Ok(h) => columns(out, made.to, h.version, packet::value(made.packet)),
-        Err(_) => out.write_all(b"- 0.0 -\n"),
-    }
+// An output line as it is written: its bytes in front of its room, and how many they are. What `write!` promises says nothing of how many bytes it writes.
+#[derive(Drop)]
+struct Row {
+    room: [u8; ROW_SIZE],
+    used: usize,
+    ghost in_room: { used ≤ row_size },
 }
 
-// The whole line.
-fn row<W: Write>(out: &mut W, line: u64, number: u8, made: Option<Made>) -> Result<()> {
-    write!(out, "{line} {number} ")?;
-    match made {
-        Some(made) => parcel(out, made),
-        None => out.write_all(b"0 - 0.0 -\n"),
+impl Row {
+    fn byte(&mut self, b: u8)
+        requires { self.old.used < row_size }
+        ensures { self.new.used ≡ self.old.used + 1 }
+    {
+        self.room[self.used] = b;
+        self.used += 1;
+    }
+
+    fn bytes(&mut self, s: &[u8])
+        requires { self.old.used + length s.now ≤ row_size }
+        ensures { self.new.used ≡ self.old.used + length s.now }
+    {
+        be::put_bytes(&mut self.room, self.used, s);
+        self.used += s.len();
+    }
+
+    // A number, and what stands behind it.
+    fn decimal(&mut self, n: u64, end: u8)
+        requires { self.old.used + most_digits < row_size }
+        ensures { self.new.used ≤ self.old.used + most_digits + 1 }
+    {
+        let mut digits = [0u8; MOST_DIGITS];
+        let k = io::decimal(n, &mut digits);
+        self.bytes(&digits[..k]);
+        self.byte(end);
+    }
+
+    fn to(&mut self, place: Place)
+        requires { self.old.used + most_digits < row_size }
+        ensures { self.new.used ≤ self.old.used + most_digits + 1 }
+    {
+        match place {
+            Place::Relay => self.bytes(b"r "),
+            Place::Client => self.bytes(b"c "),
+            Place::Node(id) => self.decimal(u64::from(id), b' '),
+        }
+    }
+
+    fn version(&mut self, v: Version)
+        requires { self.old.used + 2 * most_digits + 2 ≤ row_size }
+        ensures { self.new.used ≤ self.old.used + 2 * most_digits + 2 }
+    {
+        self.decimal(u64::from(v.session.0), b'.');
+        self.decimal(u64::from(v.sequence.0), b' ');
+    }
+
+    // The value of a packet, and the end of the line.
+    fn value(&mut self, packet: &[u8])
+        requires { self.old.used + value_size + 1 ≤ row_size }
+        ensures { self.new.used ≤ self.old.used + value_size + 1 }
+    {
+        let v = shown(packet);
+        if v.is_empty() {
+            self.bytes(b"-\n");
+            return;
+        }
+        self.bytes(v);
+        self.byte(b'\n');
+    }
+
+    // Destination, version and value of a packet; what is no packet has no columns.
+    fn columns(&mut self, to: Place, packet: &[u8])
+        requires { self.old.used + 3 * most_digits + 3 + value_size + 1 ≤ row_size }
+    {
+        match packet::read(packet) {
+            Ok(h) => {
+                self.to(to);
+                self.version(h.version);
+                self.value(packet);
+            }
+            Err(_) => self.bytes(b"- 0.0 -\n"),
+        }
+    }
+
+    // The whole line.
+    fn row(&mut self, line: u64, number: u8, made: Option<Made>)
+        requires { self.old.used ≡ 0 }
+    {
+        self.decimal(line, b' ');
+        self.decimal(u64::from(number), b' ');
+        match made {
+            Some(made) => {
+                self.decimal(made.parcel as u64, b' ');
+                self.columns(made.to, made.packet);
+            }
+            None => self.bytes(b"0 - 0.0 -\n"),
+        }
     }
 }
 
 // Writes what a line gave, in one write: 0 or a refusal, and the parcel made, if one was. A write that fails is passed over.
 pub fn tell(rt: &impl Print, line: u64, number: u8, made: Option<Made>) {
-    let mut out = Cursor::new([0u8; ROW_SIZE]);
-    let _ = row(&mut out, line, number, made);
-    let used = out.position() as usize;
-    let bytes = out.into_inner();
-    if let Some(written) = bytes.get(..used) {
-        let _ = rt.write_all(written);
-    }
+    let mut out = Row {
+        room: [0; ROW_SIZE],
+        used: 0,
+    };
+    out.row(line, number, made);
+    let _ = rt.write_all(&out.room[..out.used]);
 }

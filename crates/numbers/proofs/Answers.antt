@@ -1,4 +1,4 @@
--- The number of an outcome tells which it is.
+-- The number of an outcome tells which it is, and an outcome with the number of its refusal says the same.
 use Prim.Native.Nat.{ℕ, ◌<◌, ◌≤◌}
 use mathlib.Core.Path.{◌≡◌, refl, ap, subst}
 use mathlib.Core.List.{List, [], ◌∷◌, Memᴰ as Mem}
@@ -7,7 +7,10 @@ use mathlib.Core.Logic.{inl, inr}
 use native.Mathlib.Omega.{arith}
 use lib.Dec.{leb}
 use borrow.Author.Tests.{leb-true}
-use Rattle.wire.specs.Numbers.{Out, refuse, ok, First, Applies, priority, fence_above}
+use Rattle.std.specs.Prelude.{Result, Ok, Err}
+use Rattle.std.specs.Result.{MatchResult, IsErrAnd}
+use Rattle.wire.specs.declared.Refusal.{Refusal}
+use Rattle.wire.specs.Numbers.{Out, refuse, ok, said, refusal_number, First, Applies, priority, fence_above}
 use Rattle.wire.specs.Packet.{Packet, packet_of}
 use Rattle.wire.proofs.Numbers.{and_left, and_right, judged_refused}
 use Rattle.steps.specs.declared.Chain.{Chain}
@@ -19,7 +22,13 @@ use Rattle.steps.proofs.ChainIds.{first_mem, last_mem}
 use Rattle.steps.proofs.ChainOrder.{next_mem}
 use Rattle.steps.proofs.Relay.{some, relay_judged, relay_called}
 use Rattle.steps.proofs.RelayView.{RelayCase, new_read, new_write, handed, acknowledged, passed_on, relay_view}
-use Rattle.numbers.specs.Answers.{client_code, outcome_code}
+use Rattle.numbers.specs.Answers.{numbered, client_code, outcome_code}
+
+-- an answer with the number of its refusal says the same
+pub numbered_said : {A : Type 0} (r : Result A Refusal) (s : Result A ℕ) → MatchResult r (λ a. s ≡ Ok a) (λ e. IsErrAnd s (λ n. n ≡ refusal_number e)) → numbered s ≡ said r
+numbered_said (Ok a) s e = ap numbered e
+numbered_said (Err r) (Err n) e = ap refuse e
+numbered_said (Err r) (Ok a) x = elim x [ ]
 
 -- an outcome that a number tells: a node has an id, and a refusal is below the client's number
 abbrev pub Told : Outcome → Type 0

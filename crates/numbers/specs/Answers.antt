@@ -1,8 +1,13 @@
 -- Answers that are enums, each as one number, as they cross to C.
-use Rattle.std.specs.Prelude.{ℕ, ◌+◌, ltb, Option, Some, None}
-use Rattle.wire.specs.Numbers.{refuse, ok, pick}
+use Rattle.std.specs.Prelude.{ℕ, ◌+◌, ltb, Option, Some, None, Result, Ok, Err}
+use Rattle.wire.specs.Numbers.{Out, refuse, ok, pick}
 use Rattle.steps.specs.Relay.{Outcome}
 use Rattle.steps.specs.declared.Destination.TheVariants.{ToNode, ToClient}
+
+-- what an answer says that gives its refusal as a number, any number
+abbrev pub numbered : {A : Type 0} → Result A ℕ → Out A
+numbered (Ok a) = ok a
+numbered (Err n) = refuse n
 
 -- sent to the client; sent to a node is this and its id, dropped is the refusal
 abbrev pub client_code : ℕ

@@ -3,14 +3,13 @@
 #![tactic(auto)]
 
 ghost use Rattle.std.specs.Prelude.{◌≡◌, get_or};
-ghost use Rattle.wire.specs.Numbers.{code, said};
 ghost use Rattle.numbers.specs.Record.{top_byte, top_id, within, low_bits, change_fits, record_fits, record_or, places_made, joining_made, chain_of, change_of, Stands, kind_of, numbers_of, Settles, places_of};
 ghost use Rattle.numbers.specs.Fields.{fields_fit, head_from, FieldsStand, head_or, fields_of, fields_given};
-ghost use Rattle.numbers.specs.Answers.{outcome_code, found_code};
+ghost use Rattle.numbers.specs.Answers.{numbered, outcome_code, found_code};
 
 use std::array;
-use steps::{Chain, Change, Destination, Joining, Outcome};
-use wire::{Head, Refusal, Sequence, Session, Stamp, Version};
+use steps::{Chain, Change, Destination, Joining};
+use wire::{Head, Sequence, Session, Stamp, Version};
 
 pub const RECORD_SIZE: usize = 18;
 
@@ -144,7 +143,9 @@ fn chain_at(l: &Record) -> Chain
     }
 }
 
-// The record that numbers stand for; where they stand for none, one that breaks the rules, so that every step refuses it with 1.
+// The record that numbers stand for; where they stand for none, one that breaks the rules, so that every step refuses it with 1. It is inlined: a record
+// that comes through memory is written two bytes at a time, and a controller step then took 10 to 20 ns more.
+#[inline(always)]
 pub fn record_of(l: &[u32]) -> Chain
     ensures { result ≡ record_or l.now }
 {
@@ -194,11 +195,10 @@ fn numbers_of(c: Chain) -> Record
     ]
 }
 
-// After a step on the record: its number, and where it is done the numbers of the record that it left.
-pub fn settle(l: &mut [u32], answer: Result<(), Refusal>, c: Chain) -> u8
-    ensures { Settles l.old (code answer) c result l.new }
+// After a step on the record: its number, any number, and where it is 0 the numbers of the record that it left.
+pub fn settle(l: &mut [u32], number: u8, c: Chain) -> u8
+    ensures { Settles l.old number c result l.new }
 {
-    let number = wire::number(answer);
     if (number == 0) & (l.len() == RECORD_SIZE) {
         l.copy_from_slice(&numbers_of(c));
     }
@@ -295,13 +295,14 @@ pub fn give_fields(f: &mut [u32], h: Head)
 
 // ---- answers
 
-pub fn outcome(o: Outcome) -> u32
-    ensures { result ≡ outcome_code (said o) }
+// Where a packet is sent, or the number under which it is dropped, any number.
+pub fn outcome(o: Result<Destination, u8>) -> u32
+    ensures { result ≡ outcome_code (numbered o) }
 {
     match o {
         Ok(Destination::ToNode(id)) => CLIENT_CODE + u32::from(id),
         Ok(Destination::ToClient) => CLIENT_CODE,
-        Err(r) => u32::from(u8::from(r)),
+        Err(n) => u32::from(n),
     }
 }
 

@@ -121,7 +121,7 @@ fn part(p: &[u8], at: usize, n: usize) -> &[u8]
 {
     match p.get(at..) {
         Some(rest) => &rest[..n.min(rest.len())],
-        None => &[],
+        None => &p[..0],
     }
 }
 
@@ -140,7 +140,7 @@ pub fn value_of(p: &[u8]) -> &[u8]
 {
     match p.get(LENGTH_AT) {
         Some(n) => part(p, FRONT_SIZE, usize::from(*n)),
-        None => &[],
+        None => &p[..0],
     }
 }
 
@@ -149,7 +149,7 @@ pub fn value_of(p: &[u8]) -> &[u8]
 pub fn key(p: &[u8]) -> &[u8]
     ensures { result.now ≡ key_part p.now }
 {
-    if well_formed(p) { key_of(p) } else { &[] }
+    if well_formed(p) { key_of(p) } else { &p[..0] }
 }
 
 // The part that shows a packet's value; nothing of what is no packet.
@@ -157,7 +157,7 @@ pub fn key(p: &[u8]) -> &[u8]
 pub fn value(p: &[u8]) -> &[u8]
     ensures { result.now ≡ value_part p.now }
 {
-    if well_formed(p) { value_of(p) } else { &[] }
+    if well_formed(p) { value_of(p) } else { &p[..0] }
 }
 
 #[tactic(auto, unfolding(wire::specs::Packet::packet_ok))]

@@ -13,7 +13,7 @@ use Rattle.parcels.specs.declared.Fault.TheVariants.{Refused, Halted, Unclear}
 use Rattle.parcels.specs.declared.Parcel.{Parcel}
 use Rattle.parcels.specs.declared.Parcels.{Parcels}
 use Rattle.parcels.specs.Sizes.{most_parcels}
-use Rattle.parcels.specs.Parcels.{number_of, keep_outcome, count_of, part_in, part_of, place_in, to_of, packet_in, bytes_in, packet_at, parcel, placed, kept}
+use Rattle.parcels.specs.Parcels.{number_of, keep_outcome, count_of, part_in, part_of, place_in, to_of, packet_in, bytes_in, packet_at, parcel, none_yet, placed, kept, KeepGives}
 use Rattle.parcels.proofs.Laws.{bounded_fits, count_fits, part_there}
 
 -- an element that was put, and those before it
@@ -28,14 +28,23 @@ got_before (y ∷ l) zero j x h = absurd (omega arith)
 got_before (y ∷ l) (suc i) zero x h = refl
 got_before (y ∷ l) (suc i) (suc j) x h = got_before l i j x (omega arith)
 
--- one that finds no room is unclear, and any other is kept; 23 for what is halted, 24 for what is unclear
-pub keep_full : (ps : Parcels) → count_of ps ≡ most_parcels → keep_outcome ps ≡ Err Unclear
-unfolding keep_outcome
-keep_full ps e = pick_true _ _ _ (eq-eqb (count_of ps) most_parcels e)
+-- at first there is none
+pub none_counted : count_of none_yet ≡ 0
+unfolding count_of
+none_counted = bounded_fits 0 (omega arith)
 
-pub keep_room : (ps : Parcels) → count_of ps < most_parcels → keep_outcome ps ≡ Ok tt
-unfolding keep_outcome
-keep_room ps h = pick_false _ _ _ (ne_eqb (count_of ps) most_parcels (λ e. omega arith))
+-- one that finds no room is unclear, and any other is kept; 23 for what is halted, 24 for what is unclear
+pub keep_full : (a : Parcels) (n : ℕ) (to : Place) (o : List ℕ) → n ≡ count_of a → n ≡ most_parcels → KeepGives a to o (Err Unclear) a
+unfolding keep_outcome kept
+keep_full a n to o e f =
+    let t = eq-eqb (count_of a) most_parcels (sym e ∙ f) in
+    record { answer = sym (pick_true _ _ _ t); after = sym (pick_true _ _ _ t) }
+
+pub keep_room : (a a' : Parcels) (n : ℕ) (to : Place) (o : List ℕ) → n ≡ count_of a → (n ≡ most_parcels → ⊥) → a' ≡ placed a n to o → KeepGives a to o (Ok tt) a'
+unfolding keep_outcome kept
+keep_room a a' n to o e other f =
+    let t = ne_eqb (count_of a) most_parcels (λ g. other (e ∙ g)) in
+    record { answer = sym (pick_false _ _ _ t); after = f ∙ ap (λ (m : ℕ). placed a m to o) e ∙ sym (pick_false _ _ _ t) }
 
 pub fault_numbers : map number_of (Refused 7 ∷ Halted ∷ Unclear ∷ []) ≡ 7 ∷ 23 ∷ 24 ∷ []
 fault_numbers = refl

@@ -1,13 +1,19 @@
--- No second outcome fits the promises of keeping a parcel and of a line that sends: two that do, for one input, are equal.
+-- No second outcome fits the promises of the first parcels, of keeping one and of a line that sends: two that do, for one input, are equal.
 use Prim.Native.Nat.{ℕ}
 use mathlib.Core.Path.{◌≡◌, sym, ◌∙◌}
 use mathlib.Core.List.{List}
 use Rattle.std.specs.Prelude.{Result}
+use Rattle.be.specs.Promise.{Exact}
+use Rattle.be.proofs.Promise.{equation}
 use Rattle.lines.specs.declared.output.Place.{Place}
 use Rattle.parcels.specs.declared.Fault.{Fault}
 use Rattle.parcels.specs.declared.Parcels.{Parcels}
 use Rattle.parcels.specs.Parcels.{KeepGives}
 use Rattle.parcels.specs.Query.{SendGives}
+use Rattle.parcels.proofs.Parcels.new.Reads as new
+
+pub new_exact : Exact new.Asked new.Learnt (λ r e. r)
+new_exact = equation
 
 pub keep_once : (ps : Parcels) (to : Place) (outlet : List ℕ) (m n : Result (Unit {0}) Fault) (a b : Parcels) → KeepGives ps to outlet m a → KeepGives ps to outlet n b → (m ≡ n) × (a ≡ b)
 keep_once ps to outlet m n a b g h = (g.answer ∙ sym h.answer, g.after ∙ sym h.after)

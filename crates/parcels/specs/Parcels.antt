@@ -1,7 +1,7 @@
 -- Document 01, "Bench": 64 parcels, numbered from 1, that never vanish; where each goes, its packet, and one more.
-use Rattle.std.specs.Prelude.{ℕ, ◌+◌, ◌-◌, ◌≡◌, List, [], ◌++◌, Bool, ◌&&◌, take, eqb, ltb, leb, Option, Some, None, Result, Ok, Err, slice_get, slice_set}
+use Rattle.std.specs.Prelude.{ℕ, ◌+◌, ◌-◌, ◌≡◌, List, [], ◌++◌, Bool, ◌&&◌, take, replicate, eqb, ltb, leb, Option, Some, None, Result, Ok, Err, slice_get, slice_set}
 use Rattle.wire.specs.Numbers.{pick}
-use Rattle.wire.specs.Packet.{front_size, value_of}
+use Rattle.wire.specs.Packet.{front_size, outlet_size, value_of}
 use Rattle.lines.specs.declared.output.Place.{Place}
 use Rattle.lines.specs.declared.output.Place.TheVariants.{Client}
 use Rattle.parcels.specs.declared.Fault.{Fault}
@@ -63,10 +63,16 @@ bytes_in (Some x) = packet_in x.outlet
 unfoldable pub packet_at : Parcels → ℕ → List ℕ
 packet_at ps p = bytes_in (part_of ps p)
 
--- ---- a parcel more
-
 abbrev pub parcel : Place → List ℕ → Parcel
 parcel to outlet = record { to = to; outlet = outlet }
+
+-- ---- at first
+
+-- none is counted; every place goes to a client, with an outlet of zeros
+abbrev pub none_yet : Parcels
+none_yet = record { parcels = replicate most_parcels (parcel Client (replicate outlet_size 0)); count = 0 }
+
+-- ---- a parcel more
 
 -- behind n others, which are then one more
 unfoldable pub placed : Parcels → ℕ → Place → List ℕ → Parcels

@@ -4,7 +4,7 @@
 ghost use Rattle.std.specs.Prelude.{◌≡◌, ◌≤◌, length};
 ghost use Rattle.std.specs.Option.{option_copied};
 ghost use Rattle.parcels.specs.Sizes.{most_parcels};
-ghost use Rattle.parcels.specs.Parcels.{number_of, count_of, part_of, to_of, packet_in, packet_at, destination_of, KeepGives};
+ghost use Rattle.parcels.specs.Parcels.{number_of, count_of, part_of, to_of, packet_in, packet_at, destination_of, none_yet, KeepGives};
 ghost use Rattle.parcels.specs.Query.{padded_key, query_of, SendGives};
 
 use lines::output::{Made, Place};
@@ -52,16 +52,16 @@ impl Parcel {
 }
 
 // All parcels, side by side in fixed memory; no more of them than there is room for, whatever the count says.
-#[derive(Drop)]
+#[derive(Clone, Copy)]
 pub struct Parcels {
     pub parcels: [Parcel; MOST_PARCELS],
     pub count: u8,
 }
 
 impl Parcels {
-    #[tactic(auto, unfolding(crate::specs::Parcels::count_of, crate::specs::Parcels::bounded, wire::specs::Numbers::pick))]
+    // No parcel yet.
     pub fn new() -> Parcels
-        ensures { count_of result ≡ 0 }
+        ensures { result ≡ none_yet }
     {
         let none = Parcel {
             to: Place::Client,

@@ -1,6 +1,6 @@
 -- What an export leaves, from what the step that it calls gives.
 use Prim.Native.Nat.{ℕ}
-use mathlib.Core.Path.{◌≡◌, refl, sym, ap, ap₂, ◌∙◌}
+use mathlib.Core.Path.{◌≡◌, refl, sym, ap, ap₂, ◌∙◌, subst}
 use mathlib.Core.List.{List}
 use mathlib.Core.Bool.{true, ◌&&◌, not}
 use mathlib.Core.Logic.{◌⊎◌, inl, inr}
@@ -63,6 +63,10 @@ module _ {A : Type 0} {l : List ℕ} {c : Chain} {f : Chain → Out A} (on : OnN
           ∙ sym (ap (λ (o : Out Chain). left b (g (chain_of l)) (and_then o f)) (stands_none l n))
 
 -- ---- the numbers that are given back
+
+-- under the number of an answer
+pub settles_as : {l l' : List ℕ} {m n g : ℕ} {r : Chain} → ◌≡◌ {A = ℕ} m g → Settles l m r n l' → Settles l g r n l'
+settles_as {l} {l'} {n = n} {r = r} e s = subst (λ (k : ℕ). Settles l k r n l') e s
 
 -- of a step that gives a record where it is done, and is done only where there is room
 pub settle_leaves : {l l' : List ℕ} {n g : ℕ} {r : Chain} (cs : List Case) (o : Out Chain) → Judged cs o → ◌≡◌ {A = ℕ} g (number_of o)

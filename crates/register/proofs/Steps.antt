@@ -8,16 +8,16 @@ use lib.ListN.{length}
 use lib.Dec.{ltb, eqb}
 use borrow.Author.Tests.{eqb-true, eq-eqb, ne_eqb, ltb-false, not-false}
 use Rattle.std.specs.Prelude.{Result}
-use Rattle.wire.specs.Numbers.{Out, refuse, ok, said, code, guard, number_of, left, broken, small_outlet, malformed}
+use Rattle.wire.specs.Numbers.{refuse, ok, said, code, guard, number_of, left, broken, small_outlet, malformed}
 use Rattle.wire.specs.Packet.{packet, packet_ok, head_ok, outlet_size, read_call, write_call, sent_in, WriteGives}
 use Rattle.wire.specs.declared.Head.{Head}
 use Rattle.wire.specs.declared.Refusal.{Refusal}
-use Rattle.wire.proofs.Numbers.{pick_true, ok_inj, stop_guard, pass_guard, or_left, or_false, reflects_yes, reflects_no, reflects_cases}
+use Rattle.wire.proofs.Numbers.{pick_true, ok_inj, past, stop_guard, pass_guard, or_left, or_false, reflects_yes, reflects_no, reflects_cases}
 use Rattle.wire.proofs.Answers.{code_said, done_number}
 use Rattle.store.specs.Table.{table_ok, fence_bytes}
 use Rattle.steps.specs.declared.Chain.{Chain}
 use Rattle.steps.specs.Relay.{Outcome, relay_call, RelayGives}
-use Rattle.steps.specs.Chain.{most_nodes, chain_ok, start_call}
+use Rattle.steps.specs.Chain.{most_nodes, chain_ok, start_chain, start_call}
 use Rattle.steps.specs.Control.{ChainGives, open_call, open_rows, fence_call, fence_rows, FenceGives, copy_call, copy_rows, copy_bytes, CopyGives, activate_call, activate_rows, cancel_call, cancel_rows, remove_call, remove_rows, enter_call, EnterGives}
 use Rattle.steps.proofs.Control.{open_judged, fence_judged, copy_judged, activate_judged, cancel_judged, remove_judged}
 use Rattle.numbers.specs.Record.{record_size, places_of, kind_before, kind_after, record_or, Settles}
@@ -105,19 +105,20 @@ module _ (l ids : List ℕ) (count : ℕ) where
   unfolding start_numbers start_call
   started w = ap (λ (b : Bool). guard b broken (ok (start_of ids count))) (sym (or_assoc (not (eqb (length l) record_size)) (ltb most_nodes (length ids)) _ ∙ ap (◌|| not (chain_ok (start_of ids count))) w))
 
-  -- what the code makes of the ids
-  made : {places : List ℕ} {o : Out Chain} → wrong ≡ false → places ≡ places_of ids → o ≡ start_call (length ids) places count → start_numbers l ids count ≡ o
-  made w p e = sym (started w) ∙ ap (λ (x : List ℕ). start_call (length ids) x count) (sym p) ∙ sym e
+  start_is : {a : Chain} → start_numbers l ids count ≡ ok a → start_of ids count ≡ a
+  unfolding start_numbers
+  start_is e = ok_inj (past _ _ _ _ e).1
 
-  pub start_leaves : {l' places : List ℕ} {n : ℕ} {r : Chain} → wrong ≡ false → places ≡ places_of ids → ok r ≡ start_call (length ids) places count → Settles l 0 r n l' → StartLeaves l ids count n l'
-  start_leaves w p e s =
-      let is = made w p e in
-      settle_leaves (start_numbers_rows l ids count) (start_numbers l ids count) (start_numbers_lem l ids count) (sym (ap number_of is))
-      (λ a q. (ok_inj (sym is ∙ q), eqb-true (length l) record_size (not-false _ (or_false (not (eqb (length l) record_size)) (ltb most_nodes (length ids)) w).0)))
+  pub start_leaves : {l' places : List ℕ} {g n : ℕ} {r : Chain} → wrong ≡ false → places ≡ places_of ids → ◌≡◌ {A = ℕ} g (number_of (start_call (length ids) places count))
+      → r ≡ start_chain (length ids) places count → Settles l g r n l' → StartLeaves l ids count n l'
+  start_leaves w p e f s =
+      settle_leaves (start_numbers_rows l ids count) (start_numbers l ids count) (start_numbers_lem l ids count)
+      (e ∙ ap (λ (x : List ℕ). number_of (start_call (length ids) x count)) p ∙ ap number_of (started w))
+      (λ a o. (
+        f ∙ ap (λ (x : List ℕ). start_chain (length ids) x count) p ∙ start_is o,
+        eqb-true (length l) record_size (not-false _ (or_false (not (eqb (length l) record_size)) (ltb most_nodes (length ids)) w).0),
+      ))
       s
-
-  pub start_broken : {places : List ℕ} {m n : ℕ} → wrong ≡ false → places ≡ places_of ids → refuse m ≡ start_call (length ids) places count → n ≡ m → StartLeaves l ids count n l
-  start_broken w p e = refused (made w p e)
 
   -- the ids are few enough for the length's 8 bits
   pub start_short : wrong ≡ false → length ids ≤ most_nodes

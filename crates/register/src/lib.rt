@@ -29,7 +29,8 @@ pub fn register_node_step(table: &mut [u8], packet: &[u8], outlet: &mut [u8]) ->
 pub fn register_relay_step(rec: &[u32], packet: &[u8], outlet: &mut [u8]) -> u32
     ensures { RelayLeaves rec.now packet.now outlet.old result outlet.new }
 {
-    numbers::outcome(relay::step(numbers::record_of(rec), packet, outlet))
+    let o = relay::step(numbers::record_of(rec), packet, outlet);
+    numbers::outcome(o.map_err(u8::from))
 }
 
 // ---- the controller steps: the record as numbers, and the tables
@@ -50,7 +51,7 @@ pub fn register_fence(rec: &mut [u32], table: &mut [u8]) -> u8
 {
     let mut c = numbers::record_of(rec);
     let done = control::fence(&mut c, table);
-    numbers::settle(rec, done, c)
+    numbers::settle(rec, wire::number(done), c)
 }
 
 pub fn register_copy(rec: &mut [u32], slot: u16, named: &[u8], fresh: &mut [u8]) -> u8
@@ -58,7 +59,7 @@ pub fn register_copy(rec: &mut [u32], slot: u16, named: &[u8], fresh: &mut [u8])
 {
     let mut c = numbers::record_of(rec);
     let done = control::copy(&mut c, slot, named, fresh);
-    numbers::settle(rec, done, c)
+    numbers::settle(rec, wire::number(done), c)
 }
 
 pub fn register_activate(rec: &mut [u32]) -> u8
@@ -94,10 +95,8 @@ pub fn register_start(rec: &mut [u32], ids: &[u16], count: u16) -> u8
     if (rec.len() != RECORD_SIZE) | (MOST_NODES < ids.len()) {
         return u8::from(Refusal::Broken);
     }
-    match chain::start(ids.len() as u8, numbers::places_of(ids), count) {
-        Ok(c) => numbers::settle(rec, Ok(()), c),
-        Err(r) => u8::from(r),
-    }
+    let (c, done) = chain::start(ids.len() as u8, numbers::places_of(ids), count);
+    numbers::settle(rec, wire::number(done), c)
 }
 
 pub fn register_blank(table: &mut [u8], id: u16, count: u16) -> u8

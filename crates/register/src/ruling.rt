@@ -12,5 +12,5 @@ pub(crate) fn ruled<F: FnOnce(&mut Chain) -> Result<(), Refusal>>(rec: &mut [u32
 {
     let mut c = numbers::record_of(rec);
     let done = step(&mut c);
-    numbers::settle(rec, done, c)
+    numbers::settle(rec, wire::number(done), c)
 }

@@ -73,7 +73,7 @@ module _ (r : Chain) (p out : List ℕ) where
 
 module _ (r : Chain) (p : Packet) where
   -- a way that is not stopped
-  way_free : (w : Way) → stops_way r.change (is_read p) w ≡ false → unless_stopped r p w ≡ ok w
+  pub way_free : (w : Way) → stops_way r.change (is_read p) w ≡ false → unless_stopped r p w ≡ ok w
   unfolding unless_stopped
   way_free w e = pass_guard _ _ _ e
 

@@ -289,7 +289,7 @@ zeros_fold b [] = sym (and-true b)
 zeros_fold b (x ∷ l) = zeros_fold (b && eqb x 0) l ∙ and_assoc b (eqb x 0) (all_zero l)
 
 -- a stretch, and the rest from a place in it on
-zero_from : (s : List ℕ) (at end from : ℕ) → at ≤ from → from ≤ end → all_zero (drop at s) ≡ all_zero (slice at end s) && all_zero (drop from s)
+pub zero_from : (s : List ℕ) (at end from : ℕ) → at ≤ from → from ≤ end → all_zero (drop at s) ≡ all_zero (slice at end s) && all_zero (drop from s)
 zero_from s at end from h k =
     same_test (reflect_zero (drop at s)) (reflect_and (reflect_zero (slice at end s)) (reflect_zero (drop from s)))
     (λ z. (front z, back z), λ z j _. get_or-drop at s j 0 ∙ all z.0 z.1 j (dec_lt (at + j) end))

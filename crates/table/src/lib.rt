@@ -87,7 +87,7 @@ pub fn row(t: &[u8], i: usize) -> &[u8]
 {
     match rows(t).get(i) {
         Some(r) => r,
-        None => &[],
+        None => &t[..0],
     }
 }
 
@@ -119,7 +119,7 @@ pub fn value(r: &[u8]) -> &[u8]
     ensures { result.now ≡ value_part r.now }
 {
     if r.len() != ROW_SIZE {
-        return &[];
+        return &r[..0];
     }
     let n = usize::from(r[SIZE_AT]).min(VALUE_SIZE);
     &r[VALUE_AT..VALUE_AT + n]

@@ -1,7 +1,8 @@
--- No second outcome fits the contract of a public call: two that do, for the same arguments, are equal. And those that are over no type ask nothing of their
--- caller. And what the derived comparisons of the kinds of numbers give.
-use Prim.Native.Nat.{ℕ}
+-- Each public call asks nothing of its caller, and no second outcome fits its contract: two that do, for the same arguments, are equal. And what the derived
+-- comparisons of the kinds of numbers give.
+use Prim.Native.Nat.{ℕ, ◌*◌, ◌^◌, ◌<◌}
 use mathlib.Core.Path.{◌≡◌, refl, sym, ◌∙◌}
+use mathlib.Core.List.{[], Memᴰ}
 use denote.RattleType.{RattleType}
 use denote.Param.Laws.{Laws, IsCopy}
 use mir.Syntax.{Dict, w64}
@@ -10,6 +11,7 @@ use Rattle.std.specs.declared.clone.Clone.{Ghosts as CloneGhosts}
 use Rattle.std.specs.declared.cmp.PartialEq.{Ghosts as EqGhosts}
 use Rattle.std.specs.Ordering.{partial_lt}
 use Rattle.std.proofs.slice.Orders.{nat_cmp-ltb}
+use Rattle.std.proofs.Math.Logic.{∥∥₁_map}
 use Rattle.be.specs.Promise.{Once, Exact}
 use Rattle.be.proofs.Promise.{equation_once, equation}
 use Rattle.wire.specs.Version.{less_session, same_session, less_sequence, same_sequence, less_stamp, same_stamp}
@@ -17,6 +19,12 @@ use Rattle.wire.specs.declared.Session.{Session}
 use Rattle.wire.specs.declared.Sequence.{Sequence}
 use Rattle.wire.specs.declared.Stamp.{Stamp}
 use Rattle.wire.specs.declared.Kind.{Ghosts}
+use Rattle.wire.specs.contracts.Session.{the_row as session_row}
+use Rattle.wire.specs.contracts.Sequence.{the_row as sequence_row}
+use Rattle.wire.specs.contracts.Stamp.{the_row as stamp_row}
+use Rattle.wire.specs.contracts.SessionKind.TheImpl as session_kind
+use Rattle.wire.specs.contracts.SequenceKind.TheImpl as sequence_kind
+use Rattle.wire.specs.contracts.StampKind.TheImpl as stamp_kind
 use Rattle.wire.specs.contracts.SessionPartialEq.TheImpl as session_eq
 use Rattle.wire.specs.contracts.SessionPartialOrd.TheImpl as session_ord
 use Rattle.wire.specs.contracts.SequencePartialEq.TheImpl as sequence_eq
@@ -24,6 +32,9 @@ use Rattle.wire.specs.contracts.SequencePartialOrd.TheImpl as sequence_ord
 use Rattle.wire.specs.contracts.StampPartialEq.TheImpl as stamp_eq
 use Rattle.wire.specs.contracts.StampPartialOrd.TheImpl as stamp_ord
 use Rattle.wire.proofs.Answers.{code_once}
+use Rattle.wire.proofs.Session.TheLaws as session_laws
+use Rattle.wire.proofs.Sequence.TheLaws as sequence_laws
+use Rattle.wire.proofs.Stamp.TheLaws as stamp_laws
 use Rattle.wire.proofs.number.Reads as number
 use Rattle.wire.proofs.first_of.Reads as first_of
 use Rattle.wire.proofs.Kind.last.Reads as last
@@ -66,7 +77,7 @@ version_orderly_exact = equation
 pub version_newer_exact : Exact version_newer.Asked version_newer.Learnt (λ r e. r)
 version_newer_exact = equation
 
--- ---- the calls over any type or any number of rows; the toolchain asks of a caller that these are ones
+-- ---- the calls over any type or any number of rows
 
 pub number_once : (T : RattleType) (L : Laws T) (C : IsCopy T) (c : CloneGhosts T.Denot) (d : Dict) → Once (number.Learnt T L C c d) (λ r e. r)
 number_once T L C c d = equation_once
@@ -78,6 +89,44 @@ first_of_once N F = record { one = λ κs a r s e f p q. code_once r s (p ∙ sy
 pub last_once : (T : RattleType) (L : Laws T) (C : IsCopy T) (n : Ghosts T.Denot) (d : Dict) (c : CloneGhosts T.Denot) (e : Dict) (q : EqGhosts T.Denot) (f : Dict)
     → Once (last.Learnt T L C n d c e q f) (λ r x. r)
 last_once T L C n d c e q f = equation_once
+
+-- the toolchain asks that what a type borrows lasts, which of a type that borrows nothing asks nothing, and that a value fits in memory
+abbrev Borrows : RattleType → ℕ → Type 0
+Borrows T x = Memᴰ x T.lives
+
+lasting : {A : ℕ → Type 0} (B : ℕ → Type 0) → ((x : ℕ) → A x → ⊥) → (x : ℕ) → ∥ A x ∥₁ → ∥ B x ∥₁
+lasting B none x m = ∥∥₁_map m (λ b. absurd (none x b))
+
+pub number_exact : (T : RattleType) (L : Laws T) (C : IsCopy T) (c : CloneGhosts T.Denot) (d : Dict) → ((x : ℕ) → Borrows T x → ⊥)
+    → Exact (number.Asked T L C c d) (number.Learnt T L C c d) (λ r e. r)
+number_exact T L C c d none = record { asks = λ κs a. search (lasting (λ x. Memᴰ x κs.0) none); once = number_once T L C c d }
+
+-- of rows that fit in memory, two bytes each
+pub first_of_exact : (N : ℕ) (F : Fits w64 N) → N * 2 < 2 ^ 63 → Exact (first_of.Asked N F) (first_of.Learnt N F) (λ r e. r)
+first_of_exact N F small = record { asks = λ κs a. search (lasting {A = λ x. Memᴰ {A = ℕ} x []} (λ x. Memᴰ x κs.0) (λ x b. elim b [ ]), small); once = first_of_once N F }
+
+abbrev LastExact : (T : RattleType) → Laws T → IsCopy T → Ghosts T.Denot → Dict → CloneGhosts T.Denot → Dict → EqGhosts T.Denot → Dict → Type 0
+LastExact T L C n d c e q f = Exact (last.Asked T L C n d c e q f) (last.Learnt T L C n d c e q f) (λ r x. r)
+
+pub last_exact : (T : RattleType) (L : Laws T) (C : IsCopy T) (n : Ghosts T.Denot) (d : Dict) (c : CloneGhosts T.Denot) (e : Dict) (q : EqGhosts T.Denot) (f : Dict)
+    → ((x : ℕ) → Borrows T x → ⊥) → LastExact T L C n d c e q f
+last_exact T L C n d c e q f none = record { asks = λ κs a. search (lasting (λ x. Memᴰ x κs.0) none); once = last_once T L C n d c e q f }
+
+-- of each kind, however it is cloned
+pub session_last_exact : (c : CloneGhosts Session) (e : Dict)
+    → LastExact session_row session_laws.the_row_laws session_laws.the_row_copy session_kind.ghosts session_kind.dict c e session_eq.ghosts session_eq.dict
+session_last_exact c e =
+    last_exact session_row session_laws.the_row_laws session_laws.the_row_copy session_kind.ghosts session_kind.dict c e session_eq.ghosts session_eq.dict (λ x b. elim b [ ])
+
+pub sequence_last_exact : (c : CloneGhosts Sequence) (e : Dict)
+    → LastExact sequence_row sequence_laws.the_row_laws sequence_laws.the_row_copy sequence_kind.ghosts sequence_kind.dict c e sequence_eq.ghosts sequence_eq.dict
+sequence_last_exact c e =
+    last_exact sequence_row sequence_laws.the_row_laws sequence_laws.the_row_copy sequence_kind.ghosts sequence_kind.dict c e sequence_eq.ghosts sequence_eq.dict (λ x b. elim b [ ])
+
+pub stamp_last_exact : (c : CloneGhosts Stamp) (e : Dict)
+    → LastExact stamp_row stamp_laws.the_row_laws stamp_laws.the_row_copy stamp_kind.ghosts stamp_kind.dict c e stamp_eq.ghosts stamp_eq.dict
+stamp_last_exact c e =
+    last_exact stamp_row stamp_laws.the_row_laws stamp_laws.the_row_copy stamp_kind.ghosts stamp_kind.dict c e stamp_eq.ghosts stamp_eq.dict (λ x b. elim b [ ])
 
 -- ---- `==` and `<` of each kind, which are derived: `<` is by the order, and both are the definitions
 
