@@ -3,3 +3,4 @@ pub mod Fields
 pub mod RoundTrip
 pub mod Answers
 pub mod Examples
+pub mod Once
