@@ -175,8 +175,8 @@ fn closed(at: usize, i: usize, here: u16, behind: u16) -> u16
     if i < at { here } else { behind }
 }
 
-// The id at a place, the later ones one place on; nothing changes from place 8 on. Each place is chosen by itself, so that all eight are stored at once:
-// `copy_within` stores them two bytes at a time, for which the next to read them waits, and `rotate_right` takes 4 KB of the stack.
+// The id at a place, the later ones one place on; nothing changes from place 8 on. Each place is chosen by itself, as the law has it:
+// by `copy_within` activate and remove took about 2 ns more, and `rotate_right` takes 4 KB of the stack.
 pub fn insert(places: [u16; 8], at: usize, id: u16) -> [u16; 8]
     ensures { result ≡ insert_at places at id }
 {

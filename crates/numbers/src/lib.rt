@@ -143,8 +143,8 @@ fn chain_at(l: &Record) -> Chain
     }
 }
 
-// The record that numbers stand for; where they stand for none, one that breaks the rules, so that every step refuses it with 1. It is inlined: a record
-// that comes through memory is written two bytes at a time, and a controller step then took 10 to 20 ns more.
+// The record that numbers stand for; where they stand for none, one that breaks the rules, so that every step refuses it with 1. It is inlined:
+// called, activate and remove took about 20 ns more, open and cancel 3 ns.
 #[inline(always)]
 pub fn record_of(l: &[u32]) -> Chain
     ensures { result ≡ record_or l.now }
