@@ -1,8 +1,10 @@
 // The output line of a line: its number, the result, and the parcel made.
-ghost use Rattle.std.specs.Prelude.{◌≡◌, ◌+◌, ◌*◌, ◌≤◌, ◌<◌, length};
+ghost use Rattle.std.specs.Prelude.{◌≡◌, ◌+◌, ◌*◌, ◌≤◌, ◌<◌, length, Some};
 ghost use Rattle.wire.specs.Packet.{value_size};
 ghost use Rattle.lines.specs.Sizes.{most_digits, row_size};
+ghost use Rattle.lines.specs.Text.{place_text};
 
+use std::fmt;
 use wire::Version;
 
 // The most digits of a number.
@@ -17,6 +19,19 @@ pub enum Place {
     Relay,
     Client,
     Node(u16),
+}
+
+// As a line shows it.
+impl fmt::Display for Place {
+    ghost output = { λ to. Some (place_text to) };
+
+    fn fmt<W: fmt::Write>(&self, f: &mut fmt::Formatter<W>) -> fmt::Result {
+        match self {
+            Place::Relay => write!(f, "r"),
+            Place::Client => write!(f, "c"),
+            Place::Node(id) => write!(f, "{id}"),
+        }
+    }
 }
 
 // A parcel that a line made: its number, where it goes, and its packet.
@@ -142,4 +157,25 @@ pub fn tell(rt: &impl Print, line: u64, number: u8, made: Option<Made>) {
     };
     out.row(line, number, made);
     let _ = rt.write_all(&out.room[..out.used]);
+}
+
+#[cfg(test)]
+mod tests {
+    use super::*;
+    use std::test::Fail;
+
+    // Document 01's columns: `r` for the relay, `c` for a client, else the id.
+    #[test]
+    fn places_shown(rt: HostRuntime) -> Result<(), Fail> {
+        for (to, text) in [
+            (Place::Relay, "r"),
+            (Place::Client, "c"),
+            (Place::Node(1), "1"),
+            (Place::Node(65535), "65535"),
+        ] {
+            let shown = to.to_string(rt.alloc())?;
+            assert_eq!(rt; shown.as_str(), text);
+        }
+        Ok(())
+    }
 }
