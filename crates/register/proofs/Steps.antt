@@ -120,6 +120,10 @@ module _ (l ids : List ℕ) (count : ℕ) where
       ))
       s
 
+  -- where the start refuses, by its number alone
+  pub start_broken : {places : List ℕ} {m n : ℕ} → wrong ≡ false → places ≡ places_of ids → refuse m ≡ start_call (length ids) places count → n ≡ m → StartLeaves l ids count n l
+  start_broken w p e = refused (sym (started w) ∙ ap (λ (x : List ℕ). start_call (length ids) x count) (sym p) ∙ sym e)
+
   -- the ids are few enough for the length's 8 bits
   pub start_short : wrong ≡ false → length ids ≤ most_nodes
   start_short w = ltb-false most_nodes (length ids) (or_false (not (eqb (length l) record_size)) (ltb most_nodes (length ids)) w).1
