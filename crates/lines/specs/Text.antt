@@ -1,4 +1,4 @@
--- Document 01, "Bench": how a line shows where a parcel goes.
+-- Document 01, "Bench": the column of a line that says where a parcel goes.
 use Rattle.std.specs.Prelude.{ℕ, List, [], ◌∷◌, decimal}
 use Rattle.lines.specs.declared.output.Place.{Place}
 use Rattle.lines.specs.declared.output.Place.TheVariants.{Relay, Client, Node}

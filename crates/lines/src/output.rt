@@ -21,7 +21,7 @@ pub enum Place {
     Node(u16),
 }
 
-// As a line shows it.
+// Its column of a line, for other crates; a row writes it by `Row::to`.
 impl fmt::Display for Place {
     ghost output = { λ to. Some (place_text to) };
 
@@ -164,7 +164,7 @@ mod tests {
     use super::*;
     use std::test::Fail;
 
-    // Document 01's columns: `r` for the relay, `c` for a client, else the id.
+    // Document 01's column: `r` for the relay, `c` for a client, else the id; the other form and a width, of which no clause speaks, change nothing.
     #[test]
     fn places_shown(rt: HostRuntime) -> Result<(), Fail> {
         for (to, text) in [
@@ -173,8 +173,24 @@ mod tests {
             (Place::Node(1), "1"),
             (Place::Node(65535), "65535"),
         ] {
-            let shown = to.to_string(rt.alloc())?;
-            assert_eq!(rt; shown.as_str(), text);
+            let plain = to.to_string(rt.alloc())?;
+            let styled = format!(in rt.alloc(); "{to:#8}")?;
+            assert_eq!(rt; plain.as_str(), text);
+            assert_eq!(rt; styled.as_str(), text);
+        }
+        Ok(())
+    }
+
+    // No clause says that a destination is shown where there is room.
+    #[test]
+    fn each_node_shown(rt: HostRuntime) -> Result<(), Fail> {
+        for id in 0..=u16::MAX {
+            let to = Place::Node(id);
+            let number = id.to_string(rt.alloc())?;
+            let plain = to.to_string(rt.alloc())?;
+            let styled = format!(in rt.alloc(); "{to:#8}")?;
+            assert_eq!(rt; plain.as_str(), number.as_str());
+            assert_eq!(rt; styled.as_str(), number.as_str());
         }
         Ok(())
     }

@@ -120,7 +120,7 @@ module _ (l ids : List ℕ) (count : ℕ) where
       ))
       s
 
-  -- where the start refuses, by its number alone
+  -- a start that is refused gives that number, and the numbers stay
   pub start_broken : {places : List ℕ} {m n : ℕ} → wrong ≡ false → places ≡ places_of ids → refuse m ≡ start_call (length ids) places count → n ≡ m → StartLeaves l ids count n l
   start_broken w p e = refused (sym (started w) ∙ ap (λ (x : List ℕ). start_call (length ids) x count) (sym p) ∙ sym e)
 
